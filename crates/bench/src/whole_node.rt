@@ -2,7 +2,6 @@
 
 ghost use Rattle.std.specs.Prelude.{◌≡◌, ◌<◌, ◌≤◌, ◌^◌, IfOk};
 ghost use Rattle.node.specs.Handling.{IsInRange};
-ghost use Rattle.node.specs.Kept.{HasHistories};
 
 use crate::failure::Failure;
 use crate::plain::read;
@@ -57,9 +56,7 @@ fn outcome_of<M: Simulated>(
             floor,
         };
         let reply = node.handle(model, parcel)?;
-        outcome.committed = outcome
-            .committed
-            .saturating_add(reply.fossils.as_slice().len() as u64);
+        outcome.committed = outcome.committed.saturating_add(reply.fossils.len() as u64);
         outcome.ran = outcome.ran.saturating_add(u64::from(reply.ran));
         if floor >= end {
             break;
@@ -80,28 +77,27 @@ fn floor_after(reply: &Reply, end: u64) -> u64 {
 }
 
 /// A process without waiting messages, after its sends at the start.
-fn part<M: Simulated>(alloc: Global, model: &M, lp: u32) -> Part
+fn part<M: Simulated>(alloc: Global, model: &M, lp: u32) -> Result<Part, AllocError>
     requires { lp < (M.meaning model.now).lps }
-    ensures { IsInRange result }
+    ensures { IfOk result IsInRange }
 {
     let (words, sends) = model.start(alloc, lp);
-    Part {
+    Ok(Part {
         lp,
         number: sends.len() as u64,
-        words: State::from_words(words),
+        words: State::from_slice(alloc, words.as_slice())?,
         pending: Listed::from_vec(Vec::new(alloc)),
-    }
+    })
 }
 
 /// The node of all processes, without waiting messages.
 fn loaded<M: Simulated>(alloc: Global, model: &M, end: u64) -> Result<Node, NodeFault>
     requires { end ≤ 2 ^ 40 }
     ensures lps { IfOk result (λ node. node.lps ≡ (M.meaning model.now).lps) }
-    ensures histories { IfOk result (λ node. HasHistories (M.meaning model.now) node) }
 {
     let mut parts = Vec::new(alloc);
     for lp in 0..model.lps() {
-        parts.push(part(alloc, model, lp))?;
+        parts.push(part(alloc, model, lp)?)?;
     }
     let load = Load {
         node: 0,

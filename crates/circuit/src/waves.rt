@@ -17,7 +17,7 @@ ghost use Rattle.circuit.specs.Wave.{value_text, wave_text, WaveOfPart};
 use crate::circuit::Circuit;
 use eventkey::Message;
 use itoa::Buffer;
-use model::{Model as Simulated, Origin, SavedState, Words};
+use model::{Model as Simulated, Origin, State, Words};
 use std::alloc::{AllocError, Global};
 
 /// Returns the wave of a circuit up to a time, in ticks, as a text that programs such as GTKWave
@@ -85,7 +85,7 @@ fn first_states(
 }
 
 /// Returns the words of these states.
-fn words_of(alloc: Global, states: &[SavedState]) -> Result<Vec<Words>, AllocError>
+fn words_of(alloc: Global, states: &[State]) -> Result<Vec<Words>, AllocError>
     ensures { IfOk result (λ words. map (λ s. s.items) words.items ≡ states.now) }
 {
     let mut words = Vec::with_capacity(alloc, states.len())?;

@@ -16,6 +16,7 @@ mod Refusals
 mod Logging
 mod JudgedCommits
 mod Loading
+mod Parted
 mod Parting
 pub mod Begun
 pub mod Extensions

@@ -11,6 +11,7 @@ pub mod Headline
 pub mod PortFaults
 -- Internal.
 pub mod Pending
+pub mod Changes
 pub mod Keys
 pub mod Judging
 pub mod Ports

@@ -14,7 +14,6 @@ ghost use Rattle.coordinator.specs.Judging.{Follow, IsAccepted, IsNextInWords, R
 ghost use Rattle.coordinator.specs.Judging.{after_report, last_of, shown, standing};
 
 use crate::FrontView;
-use crate::batch::events_before;
 use crate::order::in_order;
 use eventkey::Message;
 use model::{Model as Simulated, Outgoing, Sent, Words};
@@ -70,6 +69,19 @@ fn is_whole(
     let due = in_order(alloc, due)?;
     let events = events_before(alloc, gathered, time)?;
     Ok(due.as_slice() == events.as_slice())
+}
+
+/// The messages handled before this time, in ticks, in order.
+fn events_before(alloc: Global, gathered: &[Done], time: u64) -> Result<Vec<Message>, AllocError>
+    ensures { IfOk result (λ events. events.items ≡ merged time gathered.now) }
+{
+    let mut events = Vec::with_capacity(alloc, gathered.len())?;
+    for done in gathered {
+        if done.message.time() < time {
+            events.push(done.message)?;
+        }
+    }
+    Ok(in_order(alloc, events)?)
 }
 
 /// Those of the messages sent by the reports before this time, in ticks, that are before it too.

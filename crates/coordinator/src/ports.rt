@@ -5,14 +5,13 @@ ghost use Rattle.std.specs.List.{list_all};
 ghost use Rattle.node.specs.declared.Parcel.{Parcel};
 ghost use Rattle.wire.specs.Port.Stage.{Idle, Posted};
 ghost use Rattle.gvt.specs.Replies.{is_reported_there, names_there};
-ghost use Rattle.eventkey.specs.Message.{Message};
 ghost use Rattle.eventkey.specs.declared.Signed.{Signed};
 ghost use Rattle.coordinator.specs.Ports.{IsPost, IsTake, PortChanges};
 ghost use Rattle.coordinator.specs.Session.{port_at};
 
-use eventkey::{Message, Signed};
+use eventkey::Signed;
 use node::{Parcel, Reply};
-use process::Done;
+use process::{Report, Reports};
 use wire::{Port, PortFault};
 
 /// Posts a parcel to the node at this place.
@@ -52,7 +51,7 @@ pub(crate) fn names_valid_processes(reply: &Reply, lps: u32, nodes: usize, node:
     ensures { result ≡ names_there lps nodes node reply.now }
 {
     are_sent_there(reply.out.as_slice(), lps)
-        && are_reported_there(reply.fossils.as_slice(), lps, nodes, node)
+        && are_reported_there(&reply.fossils, lps, nodes, node)
 }
 
 /// Returns whether all receivers are processes of the model.
@@ -62,30 +61,27 @@ fn are_sent_there(out: &[Signed], lps: u32) -> bool
     out.iter().all(|signed| signed.message.to() < lps)
 }
 
-/// Returns whether all receivers are processes of the model.
-fn are_there(sent: &[Message], lps: u32) -> bool
-    ensures { result ≡ list_all (λ (x : Message). nat_lt x.to lps) sent.now }
-{
-    sent.iter().all(|message| message.to() < lps)
-}
-
 /// Returns whether this handling is of a process of this node, and all receivers of what it sent
 /// are processes of the model.
-fn is_reported_there(done: &Done, lps: u32, nodes: usize, node: usize) -> bool
+fn is_reported_there(report: &Report<'_>, lps: u32, nodes: usize, node: usize) -> bool
     requires { 0 < nodes }
-    ensures { result ≡ is_reported_there lps nodes node done.now }
+    ensures { result ≡ is_reported_there lps nodes node report.now }
 {
-    let to = done.message.to();
-    to < lps && to as usize % nodes == node && are_there(done.sent.as_slice(), lps)
+    let to = report.message().to();
+    to < lps && to as usize % nodes == node && report.are_sent_below(lps)
 }
 
 /// Returns whether all these handlings are of processes of this node, and all receivers of what
 /// they sent are processes of the model.
-fn are_reported_there(fossils: &[Done], lps: u32, nodes: usize, node: usize) -> bool
+fn are_reported_there(fossils: &Reports, lps: u32, nodes: usize, node: usize) -> bool
     requires { 0 < nodes }
     ensures { result ≡ list_all (is_reported_there lps nodes node) fossils.now }
 {
-    fossils
-        .iter()
-        .all(|done| is_reported_there(done, lps, nodes, node))
+    let mut left = fossils.iter();
+    while let Some(report) = left.next() {
+        if !is_reported_there(&report, lps, nodes, node) {
+            return false;
+        }
+    }
+    true
 }

@@ -7,7 +7,8 @@ use Rattle.node.specs.declared.Load.{Load}
 use Rattle.node.specs.declared.Parcel.{Parcel}
 use Rattle.node.specs.declared.Part.{Part}
 use Rattle.model.specs.Encoding.{words_bytes}
-use Rattle.frames.specs.Bodies.{counted_bytes, load_bytes, parcel_bytes, part_bytes}
+use Rattle.process.specs.Reports.{counted_bytes}
+use Rattle.frames.specs.Bodies.{load_bytes, parcel_bytes, part_bytes}
 
 behind : (v w z x y : List ℕ) → w ≡ v ++ x → z ≡ w ++ y → z ≡ v ++ (x ++ y)
 behind v w z x y e f = f ∙ ap (λ (l : List ℕ). l ++ y) e ∙ append_assoc v x y

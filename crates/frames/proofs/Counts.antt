@@ -1,6 +1,6 @@
 -- An encoding of few bytes has few parts, so that its counts fit their bytes.
 use Rattle.std.proofs.Common.{ℕ, suc, ◌^◌, ◌<◌, ◌≤◌, List, [], ◌∷◌, ◌++◌, length, flat_map, arith, length-append}
-use Rattle.std.specs.List.{All, AllByRecursion as Every}
+use Rattle.std.specs.List.{AllByRecursion as Every}
 use Rattle.byteorder.specs.Endian.{big_bytes}
 use Rattle.byteorder.specs.Numbers.{length-bytes_high_first}
 use Rattle.eventkey.proofs.Lists.{Every-both}
@@ -13,15 +13,11 @@ use Rattle.node.specs.declared.Load.{Load}
 use Rattle.node.specs.declared.Parcel.{Parcel}
 use Rattle.node.specs.declared.Part.{Part}
 use Rattle.node.specs.declared.Reply.{Reply}
-use Rattle.process.specs.View.{IsDoneInRange}
-use Rattle.process.specs.declared.Done.{Done}
+use Rattle.process.proofs.ReportBytes.{some_done}
+use Rattle.process.specs.Reports.{IsDone, counted_bytes, done_bytes}
 use Rattle.wire.specs.Port.{IsLoadInRange}
-use Rattle.frames.specs.Bodies.{counted_bytes, done_bytes, load_bytes, low_bytes, parcel_bytes, part_bytes, reply_bytes}
-use Rattle.frames.specs.Ranges.{IsDone, IsLoad, IsParcel, IsPart, IsReply}
-
-pub words_fit : (words : List ℕ) → All (λ (w : ℕ). w < 2 ^ 64) words → Every (λ (w : ℕ). w < 2 ^ 64) words
-words_fit [] h = tt
-words_fit (x ∷ xs) h = (h 0 x (omega arith), words_fit xs (λ k d l. h (suc k) d (omega arith)))
+use Rattle.frames.specs.Bodies.{load_bytes, low_bytes, parcel_bytes, part_bytes, reply_bytes}
+use Rattle.frames.specs.Ranges.{IsLoad, IsParcel, IsPart, IsReply}
 
 module _ {X : Type 0} (encoded : X → List ℕ) where
   few : ((x : X) → 1 ≤ length (encoded x)) → (xs : List X) → length xs ≤ length (flat_map encoded xs)
@@ -47,10 +43,6 @@ some_signed s = omega (arith, encodings_are_as_long.1 s)
 some_part : (p : Part) → 1 ≤ length (part_bytes p)
 unfolding part_bytes
 some_part p = omega (arith, length-append {A = ℕ}, length-bytes_high_first 4 p.lp)
-
-some_done : (d : Done) → 1 ≤ length (done_bytes d)
-unfolding done_bytes
-some_done d = omega (arith, length-append {A = ℕ}, encodings_are_as_long.0 d.message)
 
 pub part_fits : (p : Part) → p.lp < 2 ^ 32 → Every (λ (w : ℕ). w < 2 ^ 64) p.words → Every IsRanged p.pending → IsInRange p → length (part_bytes p) ≤ 2 ^ 24 → IsPart p
 unfolding part_bytes
@@ -86,16 +78,7 @@ parcel_fits p deliver budget floor short = record {
   floor = floor;
 }
 
-pub done_fits : (d : Done) → IsRanged d.message → Every IsRanged d.sent → Every (λ (w : ℕ). w < 2 ^ 64) d.after → IsDoneInRange d → IsDone d
-done_fits d message sent after is = record {
-  message = message;
-  few = is.sent;
-  sent = sent;
-  after = (is.after, after);
-  number = is.number_after;
-}
-
-pub reply_fits : (r : Reply) → Every (λ (s : Signed). IsRanged s.message) r.out → Every (λ (d : Done). IsDoneInRange d → IsDone d) r.fossils → r.ran < 2 ^ 32 → IsReplyInRange r → length (reply_bytes r) ≤ 2 ^ 24 → IsReply r
+pub reply_fits : (r : Reply) → Every (λ (s : Signed). IsRanged s.message) r.out → Every IsDone r.fossils → r.ran < 2 ^ 32 → IsReplyInRange r → length (reply_bytes r) ≤ 2 ^ 24 → IsReply r
 unfolding reply_bytes
 reply_fits r out fossils ran is short =
     let known = counted_bytes 4 done_bytes r.fossils ++ big_bytes 4 r.ran in
@@ -105,6 +88,6 @@ reply_fits r out fossils ran is short =
       out = out;
       low = is.low;
       known = omega (arith, behind, length-append (low_bytes r.low) known, counted_within done_bytes r.fossils (big_bytes 4 r.ran), few done_bytes some_done r.fossils, short);
-      fossils = Every-both (λ (d : Done). IsDoneInRange d → IsDone d) IsDoneInRange IsDone (λ d f r. f r) r.fossils fossils is.fossils;
+      fossils = fossils;
       ran = ran;
     }

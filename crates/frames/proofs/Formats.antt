@@ -7,16 +7,10 @@ use Rattle.std.proofs.lemmas.Option.{same_Some}
 use Rattle.byteorder.specs.Endian.{big_bytes}
 use Rattle.eventkey.specs.Reading.{IsBytes, ◌>>=◌, Reader, number_at, items_at}
 use Rattle.eventkey.proofs.Fields.{IsFormat, IsStep, Takes, Takes-then, bind_some, format1, format4, items_again, items_take, step_of, when_some}
-use Rattle.frames.specs.Bodies.{counted_bytes, counted_at}
+use Rattle.process.proofs.Formats.{again_step}
+use Rattle.process.specs.Reports.{counted_bytes}
 
--- 1. A reader that begins with another one, over what was written
-
-module _ {X Y : Type 0} {Fits : X → Type 0} {write : X → List ℕ} {read : Reader X} (format : IsFormat Fits write read) where
-  pub again_last : (x : X) (rest : List ℕ) (f : X × List ℕ → Option Y) → Fits x → (read (write x ++ rest) >>= f) ≡ f (x, rest)
-  again_last x rest f fits = ap (λ (o : Option (X × List ℕ)). o >>= f) (format.again x rest fits)
-
-  pub again_step : (x : X) (tail rest : List ℕ) (f : X × List ℕ → Option Y) → Fits x → (read ((write x ++ tail) ++ rest) >>= f) ≡ f (x, tail ++ rest)
-  again_step x tail rest f fits = ap (λ (b : List ℕ). read b >>= f) (append_assoc (write x) tail rest) ∙ again_last x (tail ++ rest) f fits
+-- 1. Ends of readers
 
 -- all of the bytes were taken
 pub whole : (bytes text rest : List ℕ) → Takes bytes text rest → rest ≡ [] → bytes ≡ text
@@ -58,27 +52,3 @@ module _ {X Y : Type 0} {Fits : X → Type 0} {write : X → List ℕ} {read : R
   counted_again xs tail rest f few fits =
       ap (λ (b : List ℕ). number_at 4 b >>= λ count. items_at read count.0 count.1 >>= f) (append_assoc (counted_bytes 4 write xs) tail rest)
       ∙ counted_last xs (tail ++ rest) f few fits
-
--- a count of one byte, at most `most`
-module _ {X : Type 0} {Fits : X → Type 0} {write : X → List ℕ} {read : Reader X} (format : IsFormat Fits write read) (most : ℕ) (small : most < 256) where
-  abbrev pub Few : List X → Type 0
-  Few xs = (length xs ≤ most) × Every Fits xs
-
-  few_takes : (bytes : List ℕ) (x : List X × List ℕ) → IsBytes bytes → counted_at 1 most read bytes ≡ Some x → Takes bytes (counted_bytes 1 write x.0) x.1 × Few x.0
-  few_takes bytes x fits e =
-      let n = step_of format1 bytes fits (λ count. cond (nat_le count.0 most) (items_at read count.0 count.1) None) x e in
-      let is = when_some (nat_le n.got.0 most) (items_at read n.got.0 n.got.1) x n.rest in
-      let t = items_take Fits write read format n.got.0 n.got.1 x n.front.fits is.1 in
-      let front = Takes-then bytes (big_bytes 1 n.got.0) n.got.1 (flat_map write x.0) x.1 n.front t.0 in (
-        subst (λ (k : ℕ). Takes bytes (big_bytes 1 k ++ flat_map write x.0) x.1) (sym t.1) front,
-        (subst (λ (k : ℕ). k ≤ most) (sym t.1) (leb-true n.got.0 most is.0), t.2),
-      )
-
-  few_again : (xs : List X) (rest : List ℕ) → Few xs → counted_at 1 most read (counted_bytes 1 write xs ++ rest) ≡ Some (xs, rest)
-  few_again xs rest fits =
-      let few = fits.0 in
-      again_step format1 (length xs) (flat_map write xs) rest (λ count. cond (nat_le count.0 most) (items_at read count.0 count.1) None) (omega arith)
-      ∙ rw (le-leb (length xs) most few) (items_again Fits write read format xs rest fits.1)
-
-  pub few_format : IsFormat Few (counted_bytes 1 write) (counted_at 1 most read)
-  few_format = record { takes = few_takes; again = few_again }

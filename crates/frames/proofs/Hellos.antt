@@ -21,7 +21,8 @@ use Rattle.frames.specs.declared.first_frame.First.TheVariants as first
 use Rattle.frames.specs.declared.greeting.Hello.{Hello}
 use Rattle.frames.specs.Cutting.{Cut}
 use Rattle.frames.proofs.Cuts.{on_bytes, on_end}
-use Rattle.frames.proofs.Formats.{again_last, again_step, whole}
+use Rattle.process.proofs.Formats.{again_last, again_step}
+use Rattle.frames.proofs.Formats.{whole}
 use Rattle.wire.specs.declared.port.WireFault.{WireFault}
 use Rattle.wire.specs.declared.port.WireFault.TheVariants as wire
 

@@ -13,18 +13,13 @@ use Rattle.eventkey.proofs.Encodings.{message_format}
 use Rattle.model.proofs.Encoding.{words_format}
 use Rattle.model.specs.Encoding.{words_at, words_bytes}
 use Rattle.node.specs.declared.Part.{Part}
-use Rattle.process.specs.declared.Done.{Done}
-use Rattle.frames.specs.Bodies.{counted_bytes, counted_at, done_at, done_bytes, low_at, low_bytes, part_at, part_bytes}
-use Rattle.frames.specs.Ranges.{IsDone, IsPart}
-use Rattle.frames.proofs.Formats.{again_last, again_step, counted_last, counted_step, few_format}
-
-abbrev pub Field : Type 0
-Field = ℕ × List ℕ
+use Rattle.process.proofs.Formats.{Field, Messages, again_last, again_step}
+use Rattle.process.specs.Reports.{counted_bytes}
+use Rattle.frames.specs.Bodies.{low_at, low_bytes, part_at, part_bytes}
+use Rattle.frames.specs.Ranges.{IsPart}
+use Rattle.frames.proofs.Formats.{counted_last, counted_step}
 
 -- 1. The part of a load
-
-abbrev Messages : Type 0
-Messages = List Message × List ℕ
 
 abbrev part_read : ℕ → ℕ → List ℕ → Messages → Option (Part × List ℕ)
 part_read lp number words pending =
@@ -105,47 +100,3 @@ low_again (Some time) rest is =
 
 pub low_format : IsFormat IsLow low_bytes low_at
 low_format = record { takes = low_takes; again = low_again }
-
--- 3. A reported record
-
-abbrev done_read : Message → List Message → List ℕ → Field → Option (Done × List ℕ)
-done_read message sent after number =
-    cond (nat_le number.0 (2 ^ 63)) (Some (record { message = message; sent = sent; after = after; number_after = number.0 }, number.1)) None
-
-abbrev done_after_words : Message → List Message → List ℕ × List ℕ → Option (Done × List ℕ)
-done_after_words message sent after = number_at 8 after.1 >>= done_read message sent after.0
-
-abbrev done_after_sent : Message → Messages → Option (Done × List ℕ)
-done_after_sent message sent = words_at sent.1 >>= done_after_words message sent.0
-
-abbrev done_after_message : Message × List ℕ → Option (Done × List ℕ)
-done_after_message message = counted_at 1 8 message_at message.1 >>= done_after_sent message.0
-
-sent_format : IsFormat (λ (sent : List Message). (length sent ≤ 8) × Every IsRanged sent) (counted_bytes 1 message_bytes) (counted_at 1 8 message_at)
-sent_format = few_format message_format 8 (omega arith)
-
-done_takes : (bytes : List ℕ) (x : Done × List ℕ) → IsBytes bytes → done_at bytes ≡ Some x → Takes bytes (done_bytes x.0) x.1 × IsDone x.0
-unfolding done_at done_bytes
-done_takes bytes x fits e =
-    let message = step_of message_format bytes fits done_after_message x e in
-    let sent = step_of sent_format message.got.1 message.front.fits (done_after_sent message.got.0) x message.rest in
-    let after = step_of words_format sent.got.1 sent.front.fits (done_after_words message.got.0 sent.got.0) x sent.rest in
-    let number = step_of format8 after.got.1 after.front.fits (done_read message.got.0 sent.got.0 after.got.0) x after.rest in
-    let made : Done = record { message = message.got.0; sent = sent.got.0; after = after.got.0; number_after = number.got.0 } in
-    let is = cond_some (nat_le number.got.0 (2 ^ 63)) (made, number.got.1) x number.rest in
-    let front = Takes-then _ _ _ _ _ message.front (Takes-then _ _ _ _ _ sent.front (Takes-then _ _ _ _ _ after.front number.front)) in
-    subst (λ (y : Done × List ℕ). Takes bytes (done_bytes y.0) y.1 × IsDone y.0) is.1
-    (front, record { message = message.is; few = sent.is.0; sent = sent.is.1; after = after.is; number = leb-true number.got.0 (2 ^ 63) is.0 })
-
-done_again : (d : Done) (rest : List ℕ) → IsDone d → done_at (done_bytes d ++ rest) ≡ Some (d, rest)
-unfolding done_at done_bytes
-done_again d rest is =
-    let n = is.number in
-    again_step message_format d.message (counted_bytes 1 message_bytes d.sent ++ (words_bytes d.after ++ big_bytes 8 d.number_after)) rest done_after_message is.message
-    ∙ again_step sent_format d.sent (words_bytes d.after ++ big_bytes 8 d.number_after) rest (done_after_sent d.message) (is.few, is.sent)
-    ∙ again_step words_format d.after (big_bytes 8 d.number_after) rest (done_after_words d.message d.sent) is.after
-    ∙ again_last format8 d.number_after rest (done_read d.message d.sent d.after) (omega arith)
-    ∙ rw (le-leb d.number_after (2 ^ 63) n) refl
-
-pub done_format : IsFormat IsDone done_bytes done_at
-done_format = record { takes = done_takes; again = done_again }

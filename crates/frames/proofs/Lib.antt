@@ -13,7 +13,6 @@ pub mod Items
 pub mod Places
 pub mod Raws
 pub mod Reacting
-pub mod Sends
 mod ServedExamples
 pub mod Turns
 pub mod Whole

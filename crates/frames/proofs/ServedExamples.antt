@@ -7,7 +7,8 @@ use Rattle.eventkey.specs.Reading.{number_at, items_at}
 use Rattle.eventkey.specs.Encoding.{message_bytes, message_at, signed_bytes, signed_at}
 use Rattle.process.specs.Ring.{ring_meaning}
 use Rattle.model.specs.Encoding.{words_at, words_bytes}
-use Rattle.frames.specs.Bodies.{done_bytes, low_bytes, reply_bytes, fault_bytes, part_at, load_in, parcel_in, framed}
+use Rattle.process.specs.Reports.{done_bytes}
+use Rattle.frames.specs.Bodies.{low_bytes, reply_bytes, fault_bytes, part_at, load_in, parcel_in, framed}
 use Rattle.frames.specs.Cutting.{cut}
 use Rattle.frames.specs.Reactions.{begun, reaction}
 use Rattle.frames.specs.Serving.{Served, first_turn, next_turn, served_from, served}

@@ -17,10 +17,12 @@ use Rattle.node.specs.declared.Parcel.{Parcel}
 use Rattle.node.specs.declared.Part.{Part}
 use Rattle.node.specs.declared.Reply.{Reply}
 use Rattle.process.specs.declared.Done.{Done}
-use Rattle.frames.specs.Bodies.{counted_bytes, done_at, done_bytes, fault_bytes, fault_in, fault_of, is_place, load_bytes, load_in, low_at, low_bytes, number_of, parcel_bytes, parcel_in, part_at, part_bytes, reply_bytes, reply_in}
+use Rattle.process.proofs.Formats.{Field, again_last, again_step, done_format}
+use Rattle.process.specs.Reports.{counted_bytes, done_at, done_bytes}
+use Rattle.frames.specs.Bodies.{fault_bytes, fault_in, fault_of, is_place, load_bytes, load_in, low_at, low_bytes, number_of, parcel_bytes, parcel_in, part_at, part_bytes, reply_bytes, reply_in}
 use Rattle.frames.specs.Ranges.{IsLoad, IsParcel, IsReply}
-use Rattle.frames.proofs.Formats.{again_last, again_step, counted_again, counted_last, counted_step, pick, whole}
-use Rattle.frames.proofs.Items.{Field, done_format, low_format, part_format}
+use Rattle.frames.proofs.Formats.{counted_again, counted_last, counted_step, pick, whole}
+use Rattle.frames.proofs.Items.{low_format, part_format}
 
 -- nothing is left over
 abbrev pub alone : {X : Type 0} → List ℕ → X → Option X

@@ -2,7 +2,6 @@
 -- are big-endian.
 use Rattle.std.specs.Prelude.{ℕ, ◌^◌, Bool, nat_le, nat_lt, nat_eq, ◌&&◌, if◌then◌else◌}
 use Rattle.std.specs.Prelude.{List, [], ◌∷◌, ◌++◌, length, Option, Some, None}
-use Rattle.std.specs.List.{flat_map}
 use Rattle.byteorder.specs.Endian.{big_bytes}
 use Rattle.eventkey.specs.Reading.{◌>>=◌, Reader, number_at, items_at}
 use Rattle.eventkey.specs.Encoding.{message_bytes, message_at, signed_bytes, signed_at}
@@ -13,17 +12,13 @@ use Rattle.node.specs.declared.NodeFault.TheVariants as node
 use Rattle.node.specs.declared.Parcel.{Parcel}
 use Rattle.node.specs.declared.Part.{Part}
 use Rattle.node.specs.declared.Reply.{Reply}
-use Rattle.process.specs.declared.Done.{Done}
+use Rattle.process.specs.Reports.{counted_bytes, done_at, done_bytes}
 use Rattle.frames.specs.declared.Frame.{Frame}
 use Rattle.frames.specs.declared.Frame.TheVariants as frame
 use Rattle.frames.specs.declared.FrameKind.{FrameKind}
 use Rattle.frames.specs.declared.FrameKind.TheVariants as kind
 
 -- 1. Encodings
-
--- the number of items, in `n` bytes, and the items
-abbrev pub counted_bytes : {X : Type 0} → ℕ → (X → List ℕ) → List X → List ℕ
-counted_bytes n encoded xs = big_bytes n (length xs) ++ flat_map encoded xs
 
 unfoldable pub part_bytes : Part → List ℕ
 part_bytes p =
@@ -45,11 +40,6 @@ unfoldable pub low_bytes : Option ℕ → List ℕ
 low_bytes None = big_bytes 1 0
 low_bytes (Some time) = big_bytes 1 1 ++ big_bytes 8 time
 
-unfoldable pub done_bytes : Done → List ℕ
-done_bytes d =
-    message_bytes d.message
-    ++ (counted_bytes 1 message_bytes d.sent ++ (words_bytes d.after ++ big_bytes 8 d.number_after))
-
 unfoldable pub reply_bytes : Reply → List ℕ
 reply_bytes r =
     counted_bytes 4 signed_bytes r.out
@@ -67,12 +57,6 @@ unfoldable pub fault_bytes : NodeFault → List ℕ
 fault_bytes fault = number_of fault ∷ []
 
 -- 2. Readers
-
--- a count in `n` bytes, at most `most`, and that number of items
-abbrev pub counted_at : {X : Type 0} → ℕ → ℕ → Reader X → Reader (List X)
-counted_at n most item bytes = do
-  count ← number_at n bytes
-  if nat_le count.0 most then items_at item count.0 count.1 else None
 
 unfoldable pub part_at : Reader Part
 part_at bytes = do
@@ -94,19 +78,6 @@ low_at bytes = do
   if nat_eq flag.0 0 then Some (None, flag.1) else if nat_eq flag.0 1 then (do
     time ← number_at 8 flag.1
     if nat_lt time.0 (2 ^ 41) then Some (Some time.0, time.1) else None) else None
-
-unfoldable pub done_at : Reader Done
-done_at bytes = do
-  message ← message_at bytes
-  sent ← counted_at 1 8 message_at message.1
-  after ← words_at sent.1
-  number ← number_at 8 after.1
-  if nat_le number.0 (2 ^ 63) then
-      Some (
-        record { message = message.0; sent = sent.0; after = after.0; number_after = number.0 },
-        number.1,
-      )
-      else None
 
 -- 3. Whole bodies: no byte is left over
 

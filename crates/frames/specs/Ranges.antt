@@ -8,7 +8,7 @@ use Rattle.node.specs.declared.Load.{Load}
 use Rattle.node.specs.declared.Parcel.{Parcel}
 use Rattle.node.specs.declared.Part.{Part}
 use Rattle.node.specs.declared.Reply.{Reply}
-use Rattle.process.specs.declared.Done.{Done}
+use Rattle.process.specs.Reports.{IsDone}
 use Rattle.frames.specs.declared.Frame.{Frame}
 use Rattle.frames.specs.declared.Frame.TheVariants as frame
 
@@ -33,13 +33,6 @@ pub record IsParcel (p : Parcel) : Type 0 where
   pub deliver : Every (λ (s : Signed). IsRanged s.message) p.deliver
   pub budget : p.budget < 2 ^ 32
   pub floor : p.floor ≤ 2 ^ 40
-
-pub record IsDone (d : Done) : Type 0 where
-  pub message : IsRanged d.message
-  pub few : length d.sent ≤ 8
-  pub sent : Every IsRanged d.sent
-  pub after : IsWords d.after
-  pub number : d.number_after ≤ 2 ^ 63
 
 pub record IsReply (r : Reply) : Type 0 where
   pub count : length r.out < 2 ^ 32

@@ -4,7 +4,6 @@ use Rattle.std.specs.Prelude.{List}
 use Rattle.std.specs.Prelude.{Option, Some, None, Result, Ok, Err, IfOk}
 use Rattle.model.specs.Meaning.{Meaning}
 use Rattle.node.specs.Handling.{Answer, Node, answer, spent_node, load_answer, load_refusal, refusal}
-use Rattle.node.specs.Kept.{HasHistories}
 use Rattle.node.specs.declared.Load.{Load}
 use Rattle.node.specs.declared.NodeFault.{NodeFault}
 use Rattle.node.specs.declared.NodeFault.TheVariants as node
@@ -107,11 +106,6 @@ abbrev pub RepliesInRange : Meaning → Node → Raw → Response → Type 0
 RepliesInRange m n raw r =
     (parcel : Parcel) → parcel_in raw.body ≡ Some parcel → r.goes_on ≡ true →
     IfOk (answer m n parcel).result IsReply
-
--- the histories of a node that was made are what the model does
-abbrev pub FollowsModel : Meaning → Begun → Type 0
-FollowsModel m (Loaded n) = HasHistories m n
-FollowsModel m (Refused text) = Unit {0}
 
 -- a node that was made is of a model with `lps` processes
 abbrev pub HasProcesses : ℕ → Begun → Type 0

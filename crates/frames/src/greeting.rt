@@ -105,7 +105,7 @@ pub fn read_hello(alloc: Global, bytes: &[u8]) -> Result<Option<Hello>, AllocErr
     let Some((words, rest)) = read_words(alloc, rest)? else {
         return Ok(None);
     };
-    let words = words.words().as_slice();
+    let words = words.as_slice();
     let is_in_range = 1 <= end && end <= MOST_END && words.len() <= MOST_WORDS;
     if !is_in_range || !rest.is_empty() {
         return Ok(None);

@@ -2,7 +2,6 @@
 
 ghost use Rattle.std.specs.Prelude.{◌≡◌, false};
 ghost use Rattle.frames.specs.Streams.{OnBytes};
-ghost use Rattle.node.specs.Kept.{HasHistories};
 ghost use Rattle.frames.specs.Outcomes.{IsServed, IsServedFrom, IsTurn};
 
 use crate::output::write_all;
@@ -24,12 +23,10 @@ fn turn<M: Simulated, R: Read, W: Write>(
     writer: &mut W,
 ) -> Result<bool, WireFault>
     requires lps { node.old.spent ≡ false → (M.meaning model.now).lps ≡ node.old.lps }
-    requires histories { HasHistories (M.meaning model.now) node.old }
     ensures known { OnBytes (R.remaining reader.old) (R.remaining reader.new)
         (IsTurn (M.meaning model.now) node.old node.new
         (W.contents writer.old) (W.contents writer.new) result) }
     ensures lps { node.new.spent ≡ false → (M.meaning model.now).lps ≡ node.new.lps }
-    ensures histories { HasHistories (M.meaning model.now) node.new }
 {
     let Some(raw) = read_raw(alloc, reader)? else {
         return Ok(false);
@@ -49,7 +46,6 @@ fn serve_parcels<M: Simulated, R: Read, W: Write>(
     limit: u64,
 ) -> Result<u64, WireFault>
     requires lps { node.spent ≡ false → (M.meaning model.now).lps ≡ node.lps }
-    requires histories { HasHistories (M.meaning model.now) node }
     ensures { OnBytes (R.remaining reader.old) (R.remaining reader.new)
         (IsServedFrom (M.meaning model.now) limit node
         (W.contents writer.old) (W.contents writer.new) result) }

@@ -5,15 +5,13 @@ ghost use Rattle.std.specs.Prelude.{◌≤◌, ◌<◌, ◌^◌, length};
 ghost use Rattle.std.specs.List.{AllByRecursion as Every};
 ghost use Rattle.eventkey.specs.Message.{IsRanged};
 ghost use Rattle.node.specs.Handling.{IsInRange, IsReplyInRange};
-ghost use Rattle.process.specs.View.{IsDoneInRange};
 ghost use Rattle.wire.specs.Port.{IsLoadInRange};
 ghost use Rattle.frames.specs.Bodies.{load_bytes, parcel_bytes, part_bytes, reply_bytes};
-ghost use Rattle.frames.specs.Ranges.{IsDone, IsLoad, IsParcel, IsPart, IsReply};
+ghost use Rattle.frames.specs.Ranges.{IsLoad, IsParcel, IsPart, IsReply};
 
 use eventkey::{Message, Signed};
 use model::ranged;
 use node::{Load, Parcel, Part, Reply};
-use process::Done;
 
 /// Messages are in range.
 fn messages_ranged(messages: &[Message])
@@ -38,7 +36,7 @@ fn part_ranged(part: &Part)
     ensures { IsInRange part.now → length (part_bytes part.now) ≤ 2 ^ 24 → IsPart part.now }
 {
     let _lp = part.lp;
-    ranged(part.words.words().as_slice());
+    ranged(part.words.as_slice());
     messages_ranged(part.pending.as_slice());
 }
 
@@ -67,24 +65,6 @@ pub(crate) fn parcel_ranged(parcel: &Parcel)
     signed_ranged(parcel.deliver.as_slice());
 }
 
-/// A reported record is in range.
-fn done_ranged(done: &Done)
-    ensures { IsDoneInRange done.now → IsDone done.now }
-{
-    done.message.ranged();
-    messages_ranged(done.sent.as_slice());
-    ranged(done.after.as_slice());
-}
-
-/// Reported records are in range.
-fn fossils_ranged(fossils: &[Done])
-    ensures { Every (λ d. IsDoneInRange d → IsDone d) fossils.now }
-{
-    for done in fossils {
-        done_ranged(done);
-    }
-}
-
 /// A reply that a node returns is in range if it fits a frame.
 pub(crate) fn reply_ranged(reply: &Reply)
     ensures { IsReplyInRange reply.now → length (reply_bytes reply.now) ≤ 2 ^ 24 →
@@ -92,5 +72,5 @@ pub(crate) fn reply_ranged(reply: &Reply)
 {
     let _ran = reply.ran;
     signed_ranged(reply.out.as_slice());
-    fossils_ranged(reply.fossils.as_slice());
+    reply.fossils.ranged();
 }

@@ -3,8 +3,7 @@
 ghost use Rattle.std.specs.Prelude.{◌≡◌, ◌⊎◌, Err, IfOk, OnOk, false};
 ghost use Rattle.frames.specs.Ranges.{IsReply};
 ghost use Rattle.node.specs.Handling.{IsReplyInRange};
-ghost use Rattle.node.specs.Kept.{HasHistories};
-ghost use Rattle.frames.specs.Reactions.{Begins, FollowsModel, HasProcesses, Reacts};
+ghost use Rattle.frames.specs.Reactions.{Begins, HasProcesses, Reacts};
 ghost use Rattle.frames.specs.Reactions.{RepliesInRange, response_to};
 ghost use Rattle.wire.specs.declared.port.WireFault.TheVariants.{NoMemory};
 
@@ -40,7 +39,6 @@ pub enum Begun {
 pub fn begin<M: Simulated>(alloc: Global, model: &M, raw: &Raw) -> Result<Begun, WireFault>
     ensures begins { Begins (M.meaning model.now).lps raw.now result }
     ensures lps { IfOk result (λ begun. HasProcesses (M.meaning model.now).lps begun) }
-    ensures histories { IfOk result (λ begun. FollowsModel (M.meaning model.now) begun) }
 {
     let FrameKind::Load = raw.kind else {
         return Err(WireFault::BadKind);
@@ -69,12 +67,10 @@ pub fn react<M: Simulated>(
     raw: &Raw,
 ) -> Result<Response, WireFault>
     requires lps { node.old.spent ≡ false → (M.meaning model.now).lps ≡ node.old.lps }
-    requires histories { HasHistories (M.meaning model.now) node.old }
     ensures known { Reacts (M.meaning model.now) node.old node.new raw.now result }
     ensures range { IfOk result (λ response.
         RepliesInRange (M.meaning model.now) node.old raw.now response) }
     ensures lps { node.new.spent ≡ false → (M.meaning model.now).lps ≡ node.new.lps }
-    ensures histories { HasHistories (M.meaning model.now) node.new }
 {
     let FrameKind::Parcel = raw.kind else {
         return Err(WireFault::BadKind);

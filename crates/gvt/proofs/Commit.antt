@@ -13,8 +13,7 @@ use Rattle.model.proofs.Worlds.{handled_IsWorld, length-stamp, stamp_later, word
 use Rattle.model.specs.Meaning.{IsAddressed, IsLawful, IsSend, IsWords, Meaning, stamp}
 use Rattle.model.specs.World.{IsWorld, Reaches, World, at_time, can_handle, handled, number_of, state_of, step, step_from}
 use Rattle.model.specs.declared.Outgoing.{Outgoing}
-use Rattle.queues.specs.Record.{messages, number_before, state_before}
-use Rattle.queues.specs.declared.Record.{Record}
+use Rattle.queues.specs.Record.{Record, messages, number_before, state_before}
 use Rattle.process.specs.declared.Done.{Done}
 use Rattle.process.specs.Process.{number_after, sent_by, state_after}
 use Rattle.process.specs.Consistent.{IsFold, IsConsistentProcess, AreConsistent}

@@ -12,7 +12,7 @@ use Rattle.model.specs.Meaning.{IsLawful, IsWords, Meaning}
 use Rattle.model.specs.World.{number_of, state_of}
 use Rattle.queues.specs.Record.{handled_before, handled_from, messages, number_before, state_before}
 use Rattle.process.proofs.Arrivals.{IsLater, stamp_later}
-use Rattle.process.proofs.Handlings.{handled_before-from}
+use Rattle.process.proofs.HandlingLaws.{handled_before-from}
 use Rattle.process.proofs.Histories.{reported_messages as messages_of_reported}
 use Rattle.process.specs.Process.{Process, fossils_of, nobody}
 use Rattle.process.specs.Consistent.{AreConsistent}

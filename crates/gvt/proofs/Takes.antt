@@ -17,8 +17,7 @@ use Rattle.model.proofs.Worlds.{IsUpto_IsWorld, words_at}
 use Rattle.model.specs.Meaning.{IsWords, Meaning}
 use Rattle.model.specs.World.{number_of, state_of}
 use Rattle.queues.proofs.Releases.{copies-handled_before-le}
-use Rattle.queues.specs.Record.{handled_before, handled_from, messages, number_before, state_before}
-use Rattle.queues.specs.declared.Record.{Record}
+use Rattle.queues.specs.Record.{Record, handled_before, handled_from, messages, number_before, state_before}
 use Rattle.process.proofs.Arrivals.{IsLater, fold_kept}
 use Rattle.process.proofs.Histories.{reported_messages as messages_of_reported}
 use Rattle.process.proofs.Laws.{report_is_balanced}

@@ -1,11 +1,10 @@
 -- Reports that are accepted one after another.
-use Rattle.std.proofs.Common.{◌≡◌, ◌∙◌, ℕ, ◌+◌, ◌/◌, ◌<◌, ◌≤◌, List, [], ◌++◌, ◌∷◌, Some, ap, arith, drop, get_or, length, set, subst, sym, take, inl, inr}
+use Rattle.std.proofs.Common.{◌≡◌, ◌∙◌, ℕ, ◌+◌, ◌/◌, ◌<◌, ◌≤◌, List, [], ◌++◌, ◌∷◌, Some, ap, append-nil, append_assoc, arith, set, subst, sym, inl, inr}
 use Rattle.std.specs.List.{slice_get}
 use Rattle.std.specs.Prelude.{IsTrue, nat_eq, true, false, ◌↔◌}
 use Rattle.std.proofs.lemmas.Bool.{cases_Bool, eqb-true, eqb-false, le-leb}
 use Rattle.std.proofs.lemmas.Option.{get_or_from_slice_get, slice_get_within, slice_get-get_or}
-use Rattle.std.proofs.lemmas.List.{get_or-set_same, get_or-set_other, length-set, take-append-drop, take_all, take_more}
-use Rattle.eventkey.proofs.Lists.{drop_here}
+use Rattle.std.proofs.lemmas.List.{get_or-set_same, get_or-set_other, length-set}
 use Rattle.model.specs.Meaning.{Meaning}
 use Rattle.process.specs.Consistent.{AreConsistent}
 use Rattle.process.specs.declared.Done.{Done}
@@ -48,30 +47,31 @@ module _ (m : Meaning) (every nodes : ℕ) where
       accepted_there xs rest d (set ks (x.message.to / nodes) (moved every x so_far.0)) now ks' so_far.3
       (subst (λ (k : Known). AreAccepted m every nodes (set ks (x.message.to / nodes) (moved every x k)) (xs ++ d ∷ rest) ks') same all.3)
 
--- the reports before place i are accepted, and this is known after them
-abbrev pub IsJudgedSoFar : Meaning → ℕ → ℕ → List Known → List Done → ℕ → List Known → Type 0
-IsJudgedSoFar m every nodes ks ds i now = AreAccepted m every nodes ks (take i ds) now
+-- the reports before those left are accepted, and this is known after them
+abbrev pub IsJudgedSoFar : Meaning → ℕ → ℕ → List Known → List Done → List Done → List Known → Type 0
+IsJudgedSoFar m every nodes ks ds left now = (judged : List Done) × (ds ≡ judged ++ left) × AreAccepted m every nodes ks judged now
 
 module _ (m : Meaning) (every nodes : ℕ) (ks : List Known) (ds : List Done) where
-  pub judged_more : (i : ℕ) (d : Done) (now new : List Known) → i < length ds → d ≡ get_or ds i d →
+  pub judged_more : (left : List Done) (d : Done) (rest : List Done) (now new : List Known) → left ≡ d ∷ rest →
       IsOneAccepted m every nodes now d →
       ((k : Known) → slice_get now (d.message.to / nodes) ≡ Some k → new ≡ set now (d.message.to / nodes) (moved every d k)) →
-      IsJudgedSoFar m every nodes ks ds i now → IsJudgedSoFar m every nodes ks ds (i + 1) new
-  judged_more i d now new l is one to so_far =
-      let more : take (i + 1) ds ≡ take i ds ++ d ∷ [] = take_more ds i d l ∙ ap (λ (x : Done). take i ds ++ x ∷ []) (sym is) in
-      subst (λ (xs : List Done). AreAccepted m every nodes ks xs new) (sym more)
-      (accepted_more m every nodes (take i ds) d ks now new so_far one (to one.0 one.1))
+      IsJudgedSoFar m every nodes ks ds left now → IsJudgedSoFar m every nodes ks ds rest new
+  judged_more left d rest now new is one to h = (
+    h.0 ++ d ∷ [],
+    h.1 ∙ ap (λ (xs : List Done). h.0 ++ xs) is ∙ sym (append_assoc h.0 (d ∷ []) rest),
+    accepted_more m every nodes h.0 d ks now new h.2 one (to one.0 one.1),
+  )
 
-  pub judged_refused : (i : ℕ) (d : Done) (now : List Known) (event : ReportDifference) → i < length ds → d ≡ get_or ds i d →
+  pub judged_refused : (left : List Done) (d : Done) (rest : List Done) (now : List Known) (event : ReportDifference) → left ≡ d ∷ rest →
       (IsTrue false ↔ IsOneAccepted m every nodes now d) → event ≡ event_of d →
-      IsJudgedSoFar m every nodes ks ds i now → IsFirstRefused m every nodes ks ds event
-  judged_refused i d now event l is decided event_is so_far = record {
-    before = take i ds;
+      IsJudgedSoFar m every nodes ks ds left now → IsFirstRefused m every nodes ks ds event
+  judged_refused left d rest now event is decided event_is h = record {
+    before = h.0;
     report = d;
-    after = drop (i + 1) ds;
+    after = rest;
     known = now;
-    split = sym (take-append-drop i ds) ∙ ap (λ (xs : List Done). take i ds ++ xs) (drop_here ds i d l is);
-    accepted = so_far;
+    split = h.1 ∙ ap (λ (xs : List Done). h.0 ++ xs) is;
+    accepted = h.2;
     differs = λ one. (let wrong : false ≡ true = decided.1 one in cc);
     event_is = event_is;
   }
@@ -81,10 +81,10 @@ module _ (m : Meaning) (every nodes : ℕ) (ks : List Known) (ds : List Done) wh
       first.differs (accepted_there m every nodes first.before first.after first.report ks first.known ks' first.accepted
       (subst (λ (xs : List Done). AreAccepted m every nodes ks xs ks') first.split all))
 
-  pub judged_all : (i : ℕ) (now : List Known) → length ds ≤ i → IsJudgedSoFar m every nodes ks ds i now →
+  pub judged_all : (left : List Done) (now : List Known) → left ≡ [] → IsJudgedSoFar m every nodes ks ds left now →
       AreAccepted m every nodes ks ds now
-  judged_all i now l so_far =
-      subst (λ (xs : List Done). AreAccepted m every nodes ks xs now) (take_all i ds l) so_far
+  judged_all left now none h =
+      subst (λ (xs : List Done). AreAccepted m every nodes ks xs now) (sym (h.1 ∙ ap (λ (xs : List Done). h.0 ++ xs) none ∙ append-nil h.0)) h.2
 
 -- 3. Where all reports are judged
 

@@ -3,7 +3,7 @@
 ghost use Rattle.std.specs.Prelude.{◌≡◌, IsSome, None, Some};
 ghost use Rattle.judging.specs.Judging.{event_of};
 
-use process::Done;
+use process::Report;
 use std::cell::Cell;
 
 /// The event of a report that a port refused.
@@ -17,12 +17,13 @@ pub struct ReportDifference {
 
 impl ReportDifference {
     /// The event of this report.
-    pub(crate) fn of_report(report: &Done) -> ReportDifference
+    pub(crate) fn of_report(report: &Report<'_>) -> ReportDifference
         ensures { result ≡ event_of report.now }
     {
+        let message = report.message();
         ReportDifference {
-            process: report.message.to(),
-            time: report.message.time(),
+            process: message.to(),
+            time: message.time(),
         }
     }
 }

@@ -14,7 +14,7 @@ use crate::differences::ReportDifference;
 use crate::sends::are_sent;
 use model::{Model as Simulated, Outgoing, Sends, Words};
 use node::Part;
-use process::{Done, Process};
+use process::{Process, Report, Reports};
 use std::alloc::{AllocError, Global};
 use std::marker::Model;
 
@@ -67,7 +67,7 @@ impl Known {
         Known {
             alloc,
             lp: part.lp,
-            words: Words::from_slice(alloc, part.words.words().as_slice()).unwrap(),
+            words: Words::from_slice(alloc, part.words.as_slice()).unwrap(),
             number: part.number,
             passed: every,
         }
@@ -77,70 +77,76 @@ impl Known {
     /// what it reports. Returns whether the report is accepted. If it is not, nothing changes.
     ///
     /// It costs one handling if the report is judged, otherwise a copy of the state words.
-    fn judge<M: Simulated>(&mut self, model: &M, every: u32, done: &Done) -> bool
-        ensures accepted { IsTrue result ↔ IsAccepted (M.meaning model.now) every self.old done.now }
-        ensures moved { IsTrue result → self.new ≡ moved every done.now self.old }
+    fn judge<M: Simulated>(&mut self, model: &M, every: u32, report: &Report<'_>) -> bool
+        ensures accepted { IsTrue result ↔ IsAccepted (M.meaning model.now) every self.old report.now }
+        ensures moved { IsTrue result → self.new ≡ moved every report.now self.old }
     {
-        if done.message.to() != self.lp
-            || done.after.as_slice().len() > 16
-            || done.number_after > Process::NUMBER_LIMIT
+        let after = report.after(self.alloc);
+        let number = report.number_after();
+        if report.message().to() != self.lp
+            || after.as_slice().len() > 16
+            || number > Process::NUMBER_LIMIT
         {
             return false;
         }
         let due = u64::from(self.passed) + 1 >= u64::from(every);
-        if due && !self.is_of_model(model, done) {
+        if due && !self.is_of_model(model, report) {
             return false;
         }
         self.passed = if due { 0 } else { self.passed + 1 };
-        self.number = done.number_after;
-        copy_words(self.alloc, &mut self.words, done.after.as_slice());
+        self.number = number;
+        copy_words(self.alloc, &mut self.words, after.as_slice());
         true
     }
 
     /// Returns whether a report is what the model does with its message, from what is known of the
     /// process.
-    fn is_of_model<M: Simulated>(&self, model: &M, done: &Done) -> bool
-        ensures { IsTrue result ↔ IsOfModel (M.meaning model.now) self.now done.now }
+    fn is_of_model<M: Simulated>(&self, model: &M, report: &Report<'_>) -> bool
+        ensures { IsTrue result ↔ IsOfModel (M.meaning model.now) self.now report.now }
     {
         let lp = self.lp;
-        if lp >= model.lps() || done.number_after > Process::NUMBER_LIMIT {
+        let message = report.message();
+        if lp >= model.lps() || report.number_after() > Process::NUMBER_LIMIT {
             return false;
         }
         let mut next = Words::new(self.alloc);
         let mut sends = Sends::new(self.alloc);
-        model.handle_into(
-            self.alloc,
-            lp,
-            &self.words,
-            &done.message,
-            &mut next,
-            &mut sends,
-        );
+        model.handle_into(self.alloc, lp, &self.words, &message, &mut next, &mut sends);
         let (next, sends) = (next.as_slice(), sends.as_slice());
-        is_reported(lp, self.number, next, sends, done)
+        is_reported(self.alloc, lp, self.number, next, sends, report)
     }
 }
 
 /// Returns whether a report of process `lp` says what a handling does that leaves these state words
 /// and makes these sends, numbered from `number` on.
 #[tactic(auto, using(crate::proofs::Handlings::same_words, crate::proofs::Handlings::other_words))]
-fn is_reported(lp: u32, number: u64, next: &[u64], sends: &[Outgoing], done: &Done) -> bool
-    requires { done.now.number_after ≤ 2 ^ 63 }
-    ensures { IsTrue result ↔ ((done.now.number_after ≡ number + length sends.now)
-        × (next.now ≡ done.now.after)
-        × (done.now.sent ≡ stamp lp done.now.message.time number sends.now)) }
+fn is_reported(
+    alloc: Global,
+    lp: u32,
+    number: u64,
+    next: &[u64],
+    sends: &[Outgoing],
+    report: &Report<'_>,
+) -> bool
+    requires { report.now.number_after ≤ 2 ^ 63 }
+    ensures { IsTrue result ↔ ((report.now.number_after ≡ number + length sends.now)
+        × (next.now ≡ report.now.after)
+        × (report.now.sent ≡ stamp lp report.now.message.time number sends.now)) }
 {
-    done.message.ranged();
-    if done.number_after < number {
+    let message = report.message();
+    message.ranged();
+    let number_after = report.number_after();
+    if number_after < number {
         return false;
     }
-    if sends.len() as u64 != done.number_after - number {
+    if sends.len() as u64 != number_after - number {
         return false;
     }
-    if next != done.after.as_slice() {
+    if next != report.after(alloc).as_slice() {
         return false;
     }
-    are_sent(lp, done.message.time(), number, sends, done.sent.as_slice())
+    let sent = report.sent(alloc);
+    are_sent(lp, message.time(), number, sends, sent.as_slice())
 }
 
 /// Replaces the words. Those of equal number are copied, as almost always.
@@ -177,7 +183,7 @@ pub(crate) fn judge_all<M: Simulated>(
     every: u32,
     nodes: u32,
     known: &mut Vec<Known>,
-    reports: &[Done],
+    reports: &Reports,
 ) -> Result<(), ReportDifference>
     requires nodes { 0 < nodes }
     ensures accepted { OnOk result (AreAccepted (M.meaning model.now) every nodes
@@ -187,9 +193,10 @@ pub(crate) fn judge_all<M: Simulated>(
     ensures first { IfErr result (λ event. IsFirstRefused (M.meaning model.now) every nodes
         known.old.items reports.now event) }
 {
-    'reports: for done in reports {
-        if !judge_one(model, every, nodes, known, done) {
-            return Err(ReportDifference::of_report(done));
+    let mut left = reports.iter();
+    'reports: while let Some(report) = left.next() {
+        if !judge_one(model, every, nodes, known, &report) {
+            return Err(ReportDifference::of_report(&report));
         }
     }
     Ok(())
@@ -201,19 +208,19 @@ fn judge_one<M: Simulated>(
     every: u32,
     nodes: u32,
     known: &mut Vec<Known>,
-    done: &Done,
+    report: &Report<'_>,
 ) -> bool
     requires nodes { 0 < nodes }
     ensures accepted { IsTrue result ↔ IsOneAccepted (M.meaning model.now) every nodes
-        known.old.items done.now }
+        known.old.items report.now }
     ensures moved { IsTrue result → (k : KnownProcess) → slice_get known.old.items
-        (done.now.message.to / nodes) ≡ Some k → known.new.items ≡ set known.old.items
-        (done.now.message.to / nodes) (moved every done.now k) }
+        (report.now.message.to / nodes) ≡ Some k → known.new.items ≡ set known.old.items
+        (report.now.message.to / nodes) (moved every report.now k) }
 {
-    let place = (done.message.to() / nodes) as usize;
+    let place = (report.message().to() / nodes) as usize;
     if place >= known.len() {
         return false;
     }
     let process = &mut known[place];
-    process.judge(model, every, done)
+    process.judge(model, every, report)
 }

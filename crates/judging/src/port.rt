@@ -206,7 +206,7 @@ impl<'m, M: Simulated, P: Port> Port for Judged<'m, M, P> {
         if self.every == 0 {
             return Ok(reply);
         }
-        let reports = reply.fossils.as_slice();
+        let reports = &reply.fossils;
         let judged = judge_all(self.model, self.every, self.nodes, &mut self.known, reports);
         match judged {
             Ok(()) => Ok(reply),

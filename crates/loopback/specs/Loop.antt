@@ -2,7 +2,6 @@
 use Rattle.std.specs.Prelude.{ℕ, true, false, ◌≡◌, List, [], Option, Some, Result, Ok}
 use Rattle.model.specs.Meaning.{Meaning}
 use Rattle.node.specs.Handling.{Node}
-use Rattle.node.specs.Kept.{HasHistories}
 use Rattle.node.specs.declared.Parcel.{Parcel}
 use Rattle.frames.specs.Cutting.{frame_cut}
 use Rattle.frames.specs.Laws.{IsEncoded}
@@ -57,11 +56,11 @@ state_of m held = record {
 abbrev pub state_by : {M : Type 0} → (M → Meaning) → Loop M → PortState
 state_by meaning port = state_of (meaning port.model) port.held
 
--- the invariant of a port: its node is not spent, runs this model and has handled messages as the
--- model does, and the bytes are exactly the frame of a parcel
+-- the invariant of a port: its node is not spent and runs this model, and the bytes are exactly the
+-- frame of a parcel
 abbrev pub IsOfModel : Meaning → Held → Type 0
-IsOfModel m (Idle node) = (node.spent ≡ false) × (node.lps ≡ m.lps) × HasHistories m node
+IsOfModel m (Idle node) = (node.spent ≡ false) × (node.lps ≡ m.lps)
 IsOfModel m (Posted node bytes) =
-    (node.spent ≡ false) × (node.lps ≡ m.lps) × HasHistories m node
+    (node.spent ≡ false) × (node.lps ≡ m.lps)
     × IsEncoded bytes (frame.Parcel (posted_in bytes)) []
 IsOfModel m held = Unit {0}

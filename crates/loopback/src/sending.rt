@@ -7,7 +7,6 @@ ghost use Rattle.frames.specs.declared.Frame.{Frame};
 ghost use Rattle.frames.specs.declared.Frame.TheVariants as frame;
 ghost use Rattle.loopback.specs.Passing.{IsLoadCause, IsMade, IsReadOf, IsReplyBy, IsTakeCause};
 ghost use Rattle.node.specs.Handling.{answer};
-ghost use Rattle.node.specs.Kept.{HasHistories};
 ghost use Rattle.node.specs.declared.Parcel.{Parcel};
 ghost use Rattle.wire.specs.Port.{IsLoadInRange};
 ghost use Rattle.wire.specs.declared.port.PortFault.TheVariants.{Wire};
@@ -57,7 +56,6 @@ pub(crate) fn loaded<M: Simulated>(alloc: Global, model: &M, load: &Load) -> Res
     requires { IsLoadInRange load.now }
     ensures ok { IfOk result (λ n. IsMade (M.meaning model.now).lps load.now n) }
     ensures fits { OnOk result (length (load_bytes load.now) ≤ 2 ^ 24) }
-    ensures histories { IfOk result (λ n. HasHistories (M.meaning model.now) n) }
     ensures err { IfErr result (λ fault. IsLoadCause (M.meaning model.now).lps load.now fault) }
 {
     let frame = match encode_load(alloc, load) {
@@ -83,7 +81,6 @@ pub(crate) fn handled<M: Simulated>(
     parcel: &[u8],
 ) -> Result<Reply, PortFault>
     requires lps { node.old.spent ≡ false → (M.meaning model.now).lps ≡ node.old.lps }
-    requires histories { HasHistories (M.meaning model.now) node.old }
     ensures ok { (p : Parcel) → IsEncoded parcel.now (frame.Parcel p) [] →
         IfOk result (λ reply. IsReplyBy (answer (M.meaning model.now) node.old p) node.new reply) }
     ensures fits { (p : Parcel) → IsEncoded parcel.now (frame.Parcel p) [] →
@@ -91,7 +88,6 @@ pub(crate) fn handled<M: Simulated>(
     ensures err { (p : Parcel) → IsEncoded parcel.now (frame.Parcel p) [] →
         IfErr result (λ fault. IsTakeCause (M.meaning model.now) node.old p fault) }
     ensures lps { node.new.spent ≡ false → (M.meaning model.now).lps ≡ node.new.lps }
-    ensures histories { HasHistories (M.meaning model.now) node.new }
 {
     let raw = arrived(alloc, parcel)?;
     match react(alloc, model, node, &raw) {

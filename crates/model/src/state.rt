@@ -1,13 +1,15 @@
-// The state of a process.
+// A state of a process, between its handlings.
 
-ghost use Rattle.std.specs.Prelude.{◌≡◌};
+ghost use Rattle.std.specs.Prelude.{◌≡◌, ◌≤◌, length, IfOk, IsOk};
 
-use crate::Words;
+use smallvec::SmallVec;
+use std::alloc::{AllocError, Global};
 
-/// State words that contracts see as a list, so that they see a struct with such a field as plain
-/// data.
+/// The state words of a process in a compact form, which contracts see as a list: of a front, a
+/// report, a checkpoint or a load. One or two words, as most models have, are in the value itself;
+/// more are in an allocation of their length. A handling takes them as `Words`.
 pub struct State {
-    words: Words,
+    words: SmallVec<u64, 2>,
 }
 
 // Not derived: the proof of each caller that drops a state would have to go through its parts.
@@ -26,25 +28,40 @@ impl std::marker::Model for State {
 }
 
 impl State {
-    /// Wraps these words, without an allocation.
-    pub fn from_words(words: Words) -> State
-        ensures { result ≡ words.items }
+    /// Copies these words, without an allocation for two words or fewer.
+    pub fn from_slice(alloc: Global, words: &[u64]) -> Result<State, AllocError>
+        ensures ok { IfOk result (λ state. state ≡ words.now) }
+        ensures succeeds { length words.now ≤ 2 → IsOk result }
     {
-        State { words }
+        let words = SmallVec::from_slice(alloc, words)?;
+        Ok(State { words })
     }
 
     /// Returns the words.
-    pub fn words(&self) -> &Words
-        ensures { result.now.items ≡ self.now }
+    pub fn as_slice(&self) -> &[u64]
+        ensures { result.now ≡ self.now }
     {
-        &self.words
+        self.words.as_slice()
     }
+}
 
-    /// Returns the words by value, without an allocation.
-    pub fn into_words(self) -> Words
-        ensures { result.items ≡ self }
-    {
-        let State { words } = self;
-        words
+impl PartialEq for State {
+    ghost use Rattle.std.specs.Prelude.{nat_eq};
+    ghost use Rattle.std.specs.Cmp.Lexicographic.{pointwise, lists_per};
+    ghost use Rattle.std.specs.Cmp.Lexicographic.{nat_list_eq_equiv};
+    ghost use Rattle.std.specs.Cmp.{partial_equiv_from_equiv};
+
+    ghost eq = { pointwise nat_eq };
+
+    ghost laws = { partial_equiv_from_equiv nat_list_eq_equiv };
+
+    fn eq(&self, other: &State) -> bool {
+        self.words.as_slice() == other.words.as_slice()
     }
+}
+
+impl Eq for State {
+    ghost use Rattle.std.specs.Cmp.Lexicographic.{nat_list_eq_equiv};
+
+    ghost laws = { nat_list_eq_equiv };
 }

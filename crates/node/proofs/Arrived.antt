@@ -13,8 +13,7 @@ use Rattle.eventkey.specs.declared.Sign.TheVariants.{Minus, Plus}
 use Rattle.eventkey.specs.declared.Signed.{Signed}
 use Rattle.queues.proofs.Arrivals.{undone_from}
 use Rattle.queues.proofs.Places.{but_last-last_of, map-last_of}
-use Rattle.queues.specs.Record.{messages, sent_in}
-use Rattle.queues.specs.declared.Record.{Record}
+use Rattle.queues.specs.Record.{Record, messages, sent_in}
 use Rattle.queues.specs.Queue.{Queue, arrived, back, but_last, last_of, settle, wait_again}
 use Rattle.process.proofs.Arrivals.{IsFine}
 use Rattle.process.specs.Process.{Process, arrive, queue_of, cancelled_sends}

@@ -8,8 +8,7 @@ use Rattle.eventkey.specs.Message.{Message}
 use Rattle.process.specs.Process.{Process, fossils_of, nobody, release, reported}
 use Rattle.process.specs.View.{ProcessView}
 use Rattle.process.specs.declared.Done.{Done}
-use Rattle.queues.specs.Record.{first_handled, handled_before, handled_from, number_before, state_before}
-use Rattle.queues.specs.declared.Record.{Record}
+use Rattle.queues.specs.Record.{Record, first_handled, handled_before, handled_from, number_before, state_before}
 use Rattle.node.proofs.Owns.{release_done}
 use Rattle.node.proofs.Seats.{length-summaries, staffed_again}
 use Rattle.node.proofs.Deliveries.{node_at, working}

@@ -14,8 +14,7 @@ use Rattle.process.specs.Process.{Process, arrive, handle, queue_of, release}
 use Rattle.queues.proofs.Places.{but_last-last_of}
 use Rattle.queues.proofs.Releases.{Every-handled_from}
 use Rattle.queues.specs.Queue.{Queue, back, but_last, last_of, settle, wait_again}
-use Rattle.queues.specs.Record.{handled_from, messages}
-use Rattle.queues.specs.declared.Record.{Record}
+use Rattle.queues.specs.Record.{Record, handled_from, messages}
 
 module _ (P : Message → Type 0) where
   settle_waiting : (sign : Sign) (m : Message) (k : Queue) → P m → Every P k.waiting → Every P (settle (record { sign = sign; message = m }) k).waiting

@@ -19,10 +19,9 @@ use Rattle.eventkey.specs.declared.Sign.TheVariants.{Minus, Plus}
 use Rattle.eventkey.specs.declared.Signed.{Signed}
 use Rattle.model.proofs.Worlds.{stamp_addressed}
 use Rattle.model.specs.Meaning.{IsAddressed, IsLawful, IsWords, Meaning}
-use Rattle.queues.specs.Record.{handled_before, handled_from, messages, number_before, sent_in, state_before}
-use Rattle.queues.specs.declared.Record.{Record}
+use Rattle.queues.specs.Record.{Record, handled_before, handled_from, messages, number_before, sent_in, state_before}
 use Rattle.process.proofs.Arrivals.{IsFine, IsLater, fold_kept, stamp_later}
-use Rattle.process.proofs.Handlings.{fine_handle, handled_before-from}
+use Rattle.process.proofs.HandlingLaws.{fine_handle, handled_before-from}
 use Rattle.process.proofs.Laws.{arrival_is_balanced, arrival_stays_consistent, arrival_looks_ahead, arrival_cancels_sends, handling_is_balanced, handling_stays_consistent, reports_stay_consistent}
 use Rattle.process.specs.Process.{Process, arrive, fossils_of, handle, handling_of, has_room, nobody, queue_of, release, sent_by, state_after, cancelled_sends}
 use Rattle.process.specs.Consistent.{IsConsistentProcess, AreConsistent, held}

@@ -16,7 +16,7 @@ mod tournament;
 use eventkey::{Listed, Message, Signed};
 use model::State;
 pub use node::Node;
-use process::{Done, ProcessFault};
+use process::{ProcessFault, Reports};
 use std::alloc::{AllocError, AllocFailed};
 use thiserror::Error;
 
@@ -69,7 +69,7 @@ pub struct Reply {
     /// if none waits.
     pub low: Option<u64>,
     /// The handlings below the floor, by process ascending, those of each process in order.
-    pub fossils: Listed<Done>,
+    pub fossils: Reports,
     /// The number of messages that the node handled.
     pub ran: u32,
 }

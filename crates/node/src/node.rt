@@ -14,7 +14,7 @@ use crate::summary::Summary;
 use crate::tournament::Tournament;
 use crate::{Load, NodeFault, Parcel, Part, Reply};
 use eventkey::Message;
-use model::Model as Simulated;
+use model::{Model as Simulated, Words};
 use process::Process;
 use std::alloc::Global;
 
@@ -114,13 +114,13 @@ impl Node {
     /// least waiting time.
     pub fn handle<M: Simulated>(&mut self, model: &M, parcel: Parcel) -> Result<Reply, NodeFault>
         requires lps { self.old.spent ≡ false → (M.meaning model.now).lps ≡ self.old.lps }
-        requires histories { HasHistories (M.meaning model.now) self.old }
         ensures answered { IsAnswered (M.meaning model.now) parcel self.old self.new result }
         ensures range { IfOk result IsReplyInRange }
         ensures limit { IsLimitedAtOnce (M.meaning model.now) parcel self.old → result
             ≡ Err NumberLimit }
         ensures lps { self.new.lps ≡ self.old.lps }
-        ensures histories { HasHistories (M.meaning model.now) self.new }
+        ensures histories { HasHistories (M.meaning model.now) self.old
+            → HasHistories (M.meaning model.now) self.new }
     {
         if let Some(fault) = self.refusal(&parcel) {
             return Err(fault);
@@ -254,7 +254,8 @@ fn seated(alloc: Global, part: Part, floor: u64) -> Result<Process, NodeFault>
         words,
         pending,
     } = part;
-    let (words, pending) = (words.into_words(), pending.into_vec());
-    let process = Process::load(alloc, lp, words, number, pending, floor)?;
+    // At most 16 words fit inline, so this allocates nothing.
+    let words = Words::from_slice(alloc, words.as_slice()).unwrap();
+    let process = Process::load(alloc, lp, words, number, pending.into_vec(), floor)?;
     Ok(process)
 }

@@ -4,6 +4,7 @@ ghost use Rattle.std.specs.Prelude.{◌≡◌, ◌≤◌, ◌<◌, ◌+◌, ◌+
 ghost use Rattle.std.specs.Prelude.{IsOk, OnOk, OnErr, IfOk, IfErr, MatchOption, get_or, length};
 ghost use Rattle.std.specs.Prelude.{set, true, false};
 ghost use Rattle.std.specs.List.{AllByRecursion as Every};
+ghost use Rattle.model.specs.Meaning.{Meaning};
 ghost use Rattle.process.specs.Process.{fossils_of, has_room, nobody, release};
 ghost use Rattle.process.specs.View.{IsDoneInRange};
 ghost use Rattle.node.specs.Handling.{IsReplyInRange, after, first_fault, is_own};
@@ -19,7 +20,7 @@ use crate::tournament::Tournament;
 use crate::{NodeFault, Parcel, Reply};
 use eventkey::{Listed, Message, Signed};
 use model::Model as Simulated;
-use process::{Done, Process};
+use process::{Process, Reports};
 use std::alloc::Global;
 
 /// The processes of one node, process lp at place lp / `nodes`, and the tournament of their
@@ -62,19 +63,17 @@ impl Roster {
     }
 
     /// Delivers a message or an antimessage to its process.
-    pub(crate) fn deliver<M: Simulated>(
+    pub(crate) fn deliver(
         &mut self,
-        model: &M,
         delivery: &Signed,
         out: &mut Vec<Signed>,
     ) -> Result<(), NodeFault>
         requires ready { IsReady self.old }
-        requires modelled { Every (IsModelled (M.meaning model.now)) self.old.processes.items }
         requires own { is_own (node_of_roster false self.old) delivery.now.message.to ≡ true }
         requires late { self.old.floor ≤ delivery.now.message.time }
         ensures ready { OnOk result (IsReady self.new) }
-        ensures modelled { OnOk result
-            (Every (IsModelled (M.meaning model.now)) self.new.processes.items) }
+        ensures modelled { (m : Meaning) → Every (IsModelled m) self.old.processes.items
+            → OnOk result (Every (IsModelled m) self.new.processes.items) }
         ensures place { place_of self.new ≡ place_of self.old }
         ensures work { (ran : ℕ) → OnOk result (work_of self.new out.new.items ran
             ≡ deliver_one_here self.old.nodes delivery.now (work_of self.old out.old.items ran)) }
@@ -82,25 +81,23 @@ impl Roster {
     {
         let place = (delivery.message.to() / self.nodes) as usize;
         let process = &mut self.processes[place];
-        process.deliver(model, *delivery, out)?;
+        process.deliver(*delivery, out)?;
         let summary = Summary::of(process, self.end);
         self.summaries.set(place, summary);
         Ok(())
     }
 
     /// Delivers all messages and antimessages, in order.
-    pub(crate) fn deliver_all<M: Simulated>(
+    pub(crate) fn deliver_all(
         &mut self,
-        model: &M,
         deliveries: &[Signed],
         out: &mut Vec<Signed>,
     ) -> Result<(), NodeFault>
         requires ready { IsReady self.old }
-        requires modelled { Every (IsModelled (M.meaning model.now)) self.old.processes.items }
         requires accepted { first_fault (node_of_roster false self.old) deliveries.now ≡ None }
         ensures ready { OnOk result (IsReady self.new) }
-        ensures modelled { OnOk result
-            (Every (IsModelled (M.meaning model.now)) self.new.processes.items) }
+        ensures modelled { (m : Meaning) → Every (IsModelled m) self.old.processes.items
+            → OnOk result (Every (IsModelled m) self.new.processes.items) }
         ensures place { place_of self.new ≡ place_of self.old }
         ensures work { (ran : ℕ) → OnOk result (work_of self.new out.new.items ran
             ≡ deliver_here self.old.nodes deliveries.now (work_of self.old out.old.items ran)) }
@@ -108,7 +105,7 @@ impl Roster {
         ensures none { deliveries.now ≡ [] → IsOk result }
     {
         for delivery in deliveries {
-            self.deliver(model, delivery, out)?;
+            self.deliver(delivery, out)?;
         }
         Ok(())
     }
@@ -122,11 +119,10 @@ impl Roster {
     ) -> Result<(), NodeFault>
         requires ready { IsReady self.old }
         requires lps { (M.meaning model.now).lps ≡ self.old.lps }
-        requires modelled { Every (IsModelled (M.meaning model.now)) self.old.processes.items }
         requires least { (least_among self.old.summaries).next ≡ Some message.now }
         ensures ready { OnOk result (IsReady self.new) }
-        ensures modelled { OnOk result
-            (Every (IsModelled (M.meaning model.now)) self.new.processes.items) }
+        ensures modelled { Every (IsModelled (M.meaning model.now)) self.old.processes.items
+            → OnOk result (Every (IsModelled (M.meaning model.now)) self.new.processes.items) }
         ensures place { place_of self.new ≡ place_of self.old }
         ensures work { (ran : ℕ) → OnOk result (work_of self.new out.new.items (ran + 1)
             ≡ run_one_here (M.meaning model.now) self.old.nodes message.now
@@ -157,10 +153,9 @@ impl Roster {
     ) -> Result<u32, NodeFault>
         requires ready { IsReady self.old }
         requires lps { (M.meaning model.now).lps ≡ self.old.lps }
-        requires modelled { Every (IsModelled (M.meaning model.now)) self.old.processes.items }
         ensures ready { OnOk result (IsReady self.new) }
-        ensures modelled { OnOk result
-            (Every (IsModelled (M.meaning model.now)) self.new.processes.items) }
+        ensures modelled { Every (IsModelled (M.meaning model.now)) self.old.processes.items
+            → OnOk result (Every (IsModelled (M.meaning model.now)) self.new.processes.items) }
         ensures place { place_of self.new ≡ place_of self.old }
         ensures work { IfOk result (λ ran. run_here
             (M.meaning model.now) self.old.end self.old.nodes budget
@@ -182,33 +177,31 @@ impl Roster {
 
     /// Moves the handlings below `floor`, in ticks, from the process at this place to the end of
     /// `fossils`.
-    fn collect_at<M: Simulated>(
+    fn collect_at(
         &mut self,
-        model: &M,
         place: usize,
         floor: u64,
-        fossils: &mut Vec<Done>,
+        fossils: &mut Reports,
     ) -> Result<(), NodeFault>
         requires staffed { IsStaffed (at_floor floor
             (place_of self.old)) self.old.processes.items self.old.summaries }
-        requires modelled { Every (IsModelled (M.meaning model.now)) self.old.processes.items }
         requires there { place < length self.old.processes.items }
         ensures staffed { OnOk result (IsStaffed (at_floor floor
             (place_of self.old)) self.new.processes.items self.new.summaries) }
-        ensures modelled { OnOk result
-            (Every (IsModelled (M.meaning model.now)) self.new.processes.items) }
+        ensures modelled { (m : Meaning) → Every (IsModelled m) self.old.processes.items
+            → OnOk result (Every (IsModelled m) self.new.processes.items) }
         ensures place { place_of self.new ≡ place_of self.old }
         ensures processes { OnOk result (processes_of self.new.processes.items
             ≡ set (processes_of self.old.processes.items) place (release floor
             (get_or (processes_of self.old.processes.items) place nobody))) }
-        ensures fossils { OnOk result (fossils.new.items ≡ fossils.old.items ++ fossils_of floor
+        ensures fossils { OnOk result (fossils.new ≡ fossils.old ++ fossils_of floor
             (get_or (processes_of self.old.processes.items) place nobody)) }
-        ensures range { Every IsDoneInRange fossils.old.items → OnOk result
-            (Every IsDoneInRange fossils.new.items) }
+        ensures range { Every IsDoneInRange fossils.old → OnOk result
+            (Every IsDoneInRange fossils.new) }
         ensures memory { IfErr result (λ fault. fault ≡ NoMemory) }
     {
         let process = &mut self.processes[place];
-        process.collect_into(model, floor, fossils)?;
+        process.collect_into(floor, fossils)?;
         // What waits stays.
         let oldest = process.oldest();
         self.summaries.set_oldest(place, oldest);
@@ -218,30 +211,24 @@ impl Roster {
     /// Removes the handlings below `floor`, in ticks, from all processes and returns them. Visits
     /// only processes that have some: it goes once over the blocks of summaries, and scans only the
     /// blocks that may have some. The returned list starts with capacity for `room` handlings.
-    fn collect<M: Simulated>(
-        &mut self,
-        model: &M,
-        floor: u64,
-        room: usize,
-    ) -> Result<Vec<Done>, NodeFault>
+    fn collect(&mut self, floor: u64, room: usize) -> Result<Reports, NodeFault>
         requires ready { IsReady self.old }
-        requires modelled { Every (IsModelled (M.meaning model.now)) self.old.processes.items }
         requires floor { self.old.floor ≤ floor }
         ensures ready { OnOk result (IsReady self.new) }
-        ensures modelled { OnOk result
-            (Every (IsModelled (M.meaning model.now)) self.new.processes.items) }
+        ensures modelled { (m : Meaning) → Every (IsModelled m) self.old.processes.items
+            → OnOk result (Every (IsModelled m) self.new.processes.items) }
         ensures node { OnOk result (node_of_roster false self.new
             ≡ after floor (work_of self.old [] 0) (node_of_roster false self.old)) }
-        ensures fossils { IfOk result (λ fossils. fossils.items
+        ensures fossils { IfOk result (λ fossils. fossils
             ≡ (reply_of floor (work_of self.old [] 0)).fossils) }
-        ensures range { IfOk result (λ fossils. Every IsDoneInRange fossils.items) }
+        ensures range { IfOk result (λ fossils. Every IsDoneInRange fossils) }
         ensures place { OnErr result (place_of self.new ≡ place_of self.old) }
         ensures memory { IfErr result (λ fault. fault ≡ NoMemory) }
     {
-        let mut fossils = Vec::with_capacity(self.alloc, room)?;
+        let mut fossils = Reports::with_capacity(self.alloc, room)?;
         let mut place = self.summaries.first_due(0, floor);
         while place < self.processes.len() {
-            self.collect_at(model, place, floor, &mut fossils)?;
+            self.collect_at(place, floor, &mut fossils)?;
             place = self.summaries.first_due(place + 1, floor);
         }
         self.floor = floor;
@@ -257,12 +244,11 @@ impl Roster {
     ) -> Result<Reply, NodeFault>
         requires ready { IsReady self.old }
         requires lps { (M.meaning model.now).lps ≡ self.old.lps }
-        requires modelled { Every (IsModelled (M.meaning model.now)) self.old.processes.items }
         requires accepted { first_fault (node_of_roster false self.old) parcel.deliver ≡ None }
         requires floor { self.old.floor ≤ parcel.floor }
         ensures ready { OnOk result (IsReady self.new) }
-        ensures modelled { OnOk result
-            (Every (IsModelled (M.meaning model.now)) self.new.processes.items) }
+        ensures modelled { Every (IsModelled (M.meaning model.now)) self.old.processes.items
+            → OnOk result (Every (IsModelled (M.meaning model.now)) self.new.processes.items) }
         ensures handled { IfOk result (λ reply. IsWorked (M.meaning model.now) parcel
             (node_of_roster false self.old) (node_of_roster false self.new) reply) }
         ensures range { IfOk result IsReplyInRange }
@@ -281,13 +267,13 @@ impl Roster {
         // In the long run a node sends as many messages as it receives, and reports as many as it
         // handles.
         let mut out = Vec::with_capacity(self.alloc, deliver.as_slice().len())?;
-        self.deliver_all(model, deliver.as_slice(), &mut out)?;
+        self.deliver_all(deliver.as_slice(), &mut out)?;
         let ran = self.run(model, budget, &mut out)?;
-        let fossils = self.collect(model, floor, ran as usize)?;
+        let fossils = self.collect(floor, ran as usize)?;
         Ok(Reply {
             out: Listed::from_vec(out),
             low: self.summaries.low(),
-            fossils: Listed::from_vec(fossils),
+            fossils,
             ran,
         })
     }

@@ -1,7 +1,7 @@
 -- The labels of an axis, and which messages are shown.
-use Rattle.std.proofs.Common.{◌≡◌, ◌≢◌, ◌==◌, ℕ, zero, suc, ◌+◌, ◌-◌, ◌*◌, ◌/◌, ◌^◌, ◌<◌, ◌≤◌, ◌&&◌, nat_le, nat_lt, List, [], ◌∷◌, ◌++◌, length, get_or, set, drop, take, filter, flat_map, Bool, true, false, refl, ap, ◌∙◌, sym, arith, inl, inr, eq-eqb, eqb-true}
-use Rattle.std.proofs.lemmas.Bool.{and_parts, cases_Bool, cond_both, eqb-false, leb-true, ltb-true}
-use Rattle.std.proofs.lemmas.List.{drop_all, drop_more, get_or-set_other, get_or-set_same}
+use Rattle.std.proofs.Common.{◌≡◌, ℕ, zero, suc, ◌+◌, ◌-◌, ◌*◌, ◌/◌, ◌^◌, ◌<◌, ◌≤◌, ◌&&◌, nat_le, nat_lt, List, [], ◌∷◌, ◌++◌, length, get_or, drop, take, filter, flat_map, Bool, true, false, refl, ap, ◌∙◌, arith}
+use Rattle.std.proofs.lemmas.Bool.{and_parts, cond_both, leb-true, ltb-true}
+use Rattle.std.proofs.lemmas.List.{drop_all, drop_more}
 use Rattle.eventkey.proofs.Lists.{drop_here}
 use Rattle.eventkey.specs.Message.{Message}
 use Rattle.model.specs.World.{below}
@@ -72,36 +72,3 @@ module _ {X : Type 0} (f : ℕ → List X) (n i : ℕ) where
 
 pub first_low : (a step : ℕ) → 1 ≤ step → a / step * step ≤ a
 first_low a step some = omega arith
-
--- 4. Counts by a key
-
-module _ {X : Type 0} (q : X → Bool) (key : X → ℕ) (xs : List X) (i : ℕ) (x : X) (l : i < length xs) (is : x ≡ get_or xs i x) where
-  pub keys-passed : (counts : List ℕ) (s all : ℕ) → q x ≡ false
-      → get_or counts s 0 + length (filter (λ y. q y && (key y == s)) (drop i xs)) ≡ all
-      → get_or counts s 0 + length (filter (λ y. q y && (key y == s)) (drop (i + 1) xs)) ≡ all
-  keys-passed counts s all other so_far = rw (drop_here xs i x l is, other) at so_far
-
-  pub keys-counted : (counts : List ℕ) (k n s all : ℕ) → q x ≡ true → k ≡ key x → k < length counts → n ≡ get_or counts k 0 + 1
-      → get_or counts s 0 + length (filter (λ y. q y && (key y == s)) (drop i xs)) ≡ all
-      → get_or (set counts k n) s 0 + length (filter (λ y. q y && (key y == s)) (drop (i + 1) xs)) ≡ all
-  keys-counted counts k n s all here k_is inside n_is so_far =
-      let h = rw (drop_here xs i x l is, here) at so_far in
-      elim (cases_Bool (key x == s)) [
-        | inl e ↦
-            let same : s ≡ k = sym (k_is ∙ eqb-true (key x) s e) in
-            let v : get_or (set counts k n) s 0 ≡ n = ap (λ j. get_or (set counts k n) j 0) same ∙ get_or-set_same counts k n 0 inside in
-            let w : get_or counts s 0 ≡ get_or counts k 0 = ap (λ j. get_or counts j 0) same in
-            let h' = rw e at h in
-            omega (arith, v, w, n_is, h')
-        | inr e ↦
-            let other : s ≢ k = λ same. eqb-false (key x) s e (sym k_is ∙ sym same) in
-            let v = get_or-set_other counts k s n 0 other in
-            let h' = rw e at h in
-            omega (arith, v, h')
-      ]
-
-  pub keys-fit : (counts : List ℕ) (k : ℕ) → q x ≡ true → k ≡ key x
-      → get_or counts k 0 + length (filter (λ y. q y && (key y == k)) (drop i xs)) ≡ length (filter (λ y. q y && (key y == k)) xs) → get_or counts k 0 + 1 ≤ length xs
-  keys-fit counts k here k_is so_far =
-      let h = rw (drop_here xs i x l is, here, eq-eqb (key x) k (sym k_is)) at so_far in
-      omega (arith, length-filter-le (λ y. q y && (key y == k)) xs, h)

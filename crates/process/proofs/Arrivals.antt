@@ -14,8 +14,7 @@ use Rattle.model.specs.Meaning.{IsLawful, IsSend, IsWords, Meaning, stamp}
 use Rattle.model.specs.declared.Outgoing.{Outgoing}
 use Rattle.queues.proofs.Arrivals.{IsQueue, arrived_copies, arrived_kept, settle_done, undone_from}
 use Rattle.queues.proofs.Places.{but_last-last_of, map-but_last, map-last_of}
-use Rattle.queues.specs.Record.{messages, number_before, sent_in, state_before}
-use Rattle.queues.specs.declared.Record.{Record}
+use Rattle.queues.specs.Record.{Record, messages, number_before, sent_in, state_before}
 use Rattle.queues.specs.Queue.{arrived, back, but_last, last_of, wait_again}
 use Rattle.process.proofs.Histories.{fold_front, fold_numbers, fold_whole, number_before-append, state_before-append}
 use Rattle.process.specs.Process.{Process, arrive, queue_of, sent_by, cancelled_sends}

@@ -1,19 +1,17 @@
 -- The fields that the calls leave make the process after the call.
-use Rattle.std.proofs.Common.{◌≡◌, ℕ, ◌+◌, ◌≤◌, ◌++◌, List, [], ◌∷◌, Some, zero, suc, length, take, drop, ap, sym, ◌∙◌, arith, subst}
-use Rattle.std.proofs.lemmas.List.{append-nil, append_assoc, length-map}
-use Rattle.std.proofs.lemmas.Option.{same_Some}
-use Rattle.std.specs.List.{slice_get}
+use Rattle.std.proofs.Common.{◌≡◌, ℕ, ◌+◌, ◌≤◌, ◌++◌, List, [], ◌∷◌, Some, length, ap, sym, ◌∙◌, arith, subst}
+use Rattle.std.proofs.lemmas.List.{length-map}
 use Rattle.eventkey.specs.Bag.{IsAscending}
 use Rattle.eventkey.specs.Message.{Message}
 use Rattle.eventkey.specs.declared.Signed.{Signed}
 use Rattle.model.proofs.Worlds.{length-stamp}
-use Rattle.model.specs.Meaning.{Meaning}
+use Rattle.model.specs.Meaning.{Meaning, stamp}
+use Rattle.model.specs.declared.Outgoing.{Outgoing}
 use Rattle.queues.proofs.Moves.{same_queue}
 use Rattle.queues.proofs.Queues.{arrivals_count_undone}
 use Rattle.queues.specs.Queue.{Queue, arrival, arrived, back, back_of, but_last, first_before, last_of, released, taken}
-use Rattle.queues.specs.Record.{handled_from, messages, number_before, sends, sent_in, state_before}
+use Rattle.queues.specs.Record.{Record, handled_from, messages, number_before, state_before}
 use Rattle.queues.specs.declared.Arrival.{Arrival}
-use Rattle.queues.specs.declared.Record.{Record}
 use Rattle.process.proofs.Sound.{queue_of_arrive, queue_of_handle, queue_of_release}
 use Rattle.process.specs.Process.{Process, arrive, handle, handling_of, queue_of, release}
 
@@ -87,14 +85,6 @@ module _ (old : Queue) (q : Process) (same : old.done ≡ messages q.done) (wait
     pub collected_done : now.done ≡ messages new.done
     collected_done = ap (λ (c : Queue). c.done) now_released ∙ ap (λ (c : Process). messages c.done) (sym collected_is)
 
--- the sends of one more record, from a place on
-pub sent_in_more : (s : List Message) (hs : List Record) (k n i : ℕ) → i ≡ k + n → slice_get (sends hs) i ≡ Some s → sent_in (take (n + 1) (drop k hs)) ≡ sent_in (take n (drop k hs)) ++ s
-sent_in_more s hs zero n i is e = ap (λ (j : ℕ). sent_in (take j hs)) {x = n + 1} {y = suc n} (omega arith) ∙ first hs n (ap (slice_get (sends hs)) {x = n} {y = i} (omega arith) ∙ e)
-  where
-    first : (rs : List Record) (j : ℕ) → slice_get (sends rs) j ≡ Some s → sent_in (take (suc j) rs) ≡ sent_in (take j rs) ++ s
-    first [] j e = absurd (cc)
-    first (r ∷ rs) zero e = append-nil r.sent ∙ same_Some r.sent s e
-    first (r ∷ rs) (suc j) e = ap (λ (ms : List Message). r.sent ++ ms) (first rs j e) ∙ sym (append_assoc r.sent (sent_in (take j rs)) s)
-sent_in_more s [] (suc k) n i is e = absurd (cc)
-sent_in_more s (r ∷ rs) (suc k) n zero is e = absurd (omega arith)
-sent_in_more s (r ∷ rs) (suc k) n (suc i) is e = sent_in_more s rs k n i (omega arith) e
+-- as many messages as the model sends
+pub sent_long : (lp time number : ℕ) (slice sent : List Message) (os sends : List Outgoing) → slice ≡ sent → sent ≡ stamp lp time number os → os ≡ sends → length slice ≡ length sends
+sent_long lp time number slice sent os sends a b c = ap length (a ∙ b) ∙ (length-stamp lp time number os ∙ ap length c)

@@ -1,10 +1,9 @@
 -- Handlings that are what the model does: parts of them, one more of them, and their reports.
-use Rattle.std.proofs.Common.{◌≡◌, ℕ, ◌+◌, ◌++◌, [], ◌∷◌, List, length, map, flat_map, ap, ◌^◌, ◌<◌, ◌≤◌, ◌∙◌, refl, sym, subst, arith}
+use Rattle.std.proofs.Common.{◌≡◌, ℕ, ◌+◌, ◌++◌, [], ◌∷◌, List, length, map, flat_map, ap, ◌^◌, ◌≤◌, ◌∙◌, refl, sym, subst, arith}
 use Rattle.std.specs.List.{AllByRecursion as Every}
 use Rattle.eventkey.specs.Message.{Message}
 use Rattle.model.specs.Meaning.{Meaning, stamp}
-use Rattle.queues.specs.Record.{AreHandlings, left_by, messages, number_before, sent_in, state_before}
-use Rattle.queues.specs.declared.Record.{Record}
+use Rattle.queues.specs.Record.{Record, messages, number_before, sent_in, state_before}
 use Rattle.process.specs.Process.{number_after, state_after, reported}
 use Rattle.process.specs.Consistent.{IsFold, AreConsistent}
 use Rattle.process.specs.declared.Done.{Done}
@@ -61,19 +60,6 @@ module _ (m : Meaning) (lp : ℕ) where
   fold_numbers [] state number state' number' f = tt
   fold_numbers (h ∷ hs) state number state' number' f =
       (let same : h.number_before ≡ number = f.1 in let room : number + length h.sent ≤ 2 ^ 63 = f.3 in omega arith, fold_numbers hs (m.next_state lp state h.message) (number + length h.sent) state' number' f.4)
-
-  -- a fold of the process's own messages, in states of at most 16 words, can be coasted forward
-  -- along
-  pub fold_handlings : (hs : List Record) (state : List ℕ) (number : ℕ) (state' : List ℕ) (number' : ℕ) → lp < m.lps → IsFold m lp state number hs state' number' →
-      Every (λ (x : Message). x.to ≡ lp) (messages hs) → Every (λ (h : Record). length h.before ≤ 16) hs → AreHandlings m hs
-  fold_handlings [] state number state' number' there f own few = tt
-  fold_handlings (h ∷ hs) state number state' number' there f own few =
-      let left : left_by m h ≡ m.next_state lp state h.message = λ i. m.next_state (own.0 i) (f.0 i) h.message in
-      (subst (λ (k : ℕ). k < m.lps) (sym own.0) there, few.0, goes_on hs left (number + length h.sent) f.4, fold_handlings hs (m.next_state lp state h.message) (number + length h.sent) state' number' there f.4 own.1 few.1)
-    where
-      goes_on : (ks : List Record) {left next : List ℕ} → left ≡ next → (up : ℕ) → IsFold m lp next up ks state' number' → state_before ks left ≡ left
-      goes_on [] e up f = refl
-      goes_on (k ∷ ks) e up f = f.0 ∙ sym e
 
   -- the reports of a fold are what the model does, and end where the fold does
   pub fold_consistent : (hs : List Record) (state : List ℕ) (number : ℕ) (state' : List ℕ) (number' : ℕ) → IsFold m lp state number hs state' number' →

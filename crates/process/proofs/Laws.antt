@@ -1,7 +1,7 @@
 -- The laws of a process, from the invariants that each of its moves keeps.
 use Rattle.std.proofs.Common.{refl}
 use Rattle.process.proofs.Arrivals.{arrive_held, arrive_none, arrive_sent, history_arrive, cancelled_later, reported_arrive}
-use Rattle.process.proofs.Handlings.{handle_held, handle_sent, history_handle, history_release, release_held, release_sent, report_is_fold, reported_handle, reported_release}
+use Rattle.process.proofs.HandlingLaws.{handle_held, handle_sent, history_handle, history_release, release_held, release_sent, report_is_fold, reported_handle, reported_release}
 use Rattle.process.specs.Consistent.{ArrivalIsBalanced, ArrivalStaysConsistent, ArrivalLooksAhead, ArrivalCancelsSends, HandlingIsBalanced, HandlingStaysConsistent, HistoriesAreKept, ReportIsBalanced, ReportsStayConsistent, ReportsFollowModel}
 use Rattle.process.specs.View.{HistoriesBegin}
 

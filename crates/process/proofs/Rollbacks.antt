@@ -15,9 +15,8 @@ use Rattle.queues.proofs.Arrivals.{undone_from}
 use Rattle.queues.proofs.Places.{but_last-last_of, map-last_of}
 use Rattle.queues.proofs.Queues.{arrivals_count_undone}
 use Rattle.queues.specs.Queue.{after, back, but_last, last_of, settle}
-use Rattle.queues.specs.Record.{handled_before, handled_from, messages, number_before, sent_in, state_before}
-use Rattle.queues.specs.declared.Record.{Record}
-use Rattle.process.proofs.Handlings.{before_is_below, from_is_late, handled_before-from}
+use Rattle.queues.specs.Record.{Record, handled_before, handled_from, messages, number_before, sent_in, state_before}
+use Rattle.process.proofs.HandlingLaws.{before_is_below, from_is_late, handled_before-from}
 use Rattle.process.proofs.Histories.{number_before-append, state_before-append}
 use Rattle.process.specs.Process.{handling_of, queue_of, release, reported}
 use Rattle.process.specs.Consistent.{FossilsAreFinal, ReleasesAreUnseen, RollbacksStayAbove}

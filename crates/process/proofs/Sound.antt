@@ -17,14 +17,13 @@ use Rattle.queues.proofs.Moves.{remove_first, same_queue}
 use Rattle.queues.proofs.Places.{but_last-last_of}
 use Rattle.queues.proofs.Queues.{queues_stay_in_order}
 use Rattle.queues.specs.Queue.{IsInOrder, arrived, back, but_last, first_before, last_of, released, taken}
-use Rattle.queues.specs.Record.{AreHandlings, handled_before, handled_from, messages, number_before, state_before}
-use Rattle.queues.specs.declared.Record.{Record}
+use Rattle.queues.specs.Record.{Record, handled_before, handled_from, messages, number_before, state_before}
 use Rattle.process.proofs.Arrivals.{done_of_arrive, fold_arrive}
-use Rattle.process.proofs.Histories.{fold_handlings, fold_whole}
-use Rattle.process.proofs.Handlings.{fold_fossils, fold_handle, fold_kept, handled_before-from}
+use Rattle.process.proofs.Histories.{fold_whole}
+use Rattle.process.proofs.HandlingLaws.{fold_fossils, fold_handle, fold_kept, handled_before-from}
 use Rattle.process.specs.Process.{Process, arrive, fossils_of, handle, handling_of, number_after, queue_of, release, state_after, reported}
 use Rattle.process.specs.Consistent.{IsHistory, AreConsistent}
-use Rattle.process.specs.View.{HasDone, HasHistory, IsDoneInRange, IsProcessKept, IsSound, ProcessView, has_foreign, loaded}
+use Rattle.process.specs.View.{HasDone, IsDoneInRange, IsProcessKept, IsSound, ProcessView, has_foreign, loaded}
 
 -- 1. Loading
 
@@ -202,15 +201,10 @@ pub done_collected : (m : Meaning) (floor : ℕ) (v : ProcessView) (state : List
     × HasDone m (record v { floor = floor; process = release floor v.process }) (state_after (fossils_of floor v.process) state) (number_after (fossils_of floor v.process) number)
 done_collected m floor v state number f = ((fold_fossils m v.lp floor v.process state number f).0, fold_kept m v.lp floor v.process state number f)
 
--- 7. A history that is what the model does can be coasted forward along.
+-- 7. The history
 
 pub has_history : (m : Meaning) (v : ProcessView) (state : List ℕ) (number : ℕ) → HasDone m v state number → IsHistory m v.lp v.process
 has_history m v state number done = fold_whole m v.lp v.process.done state number v.process.state v.process.number done
 
 pub kept_unspent : (m : Meaning) (old new : ProcessView) → old.spent ≡ false → new.lp ≡ old.lp → (IsHistory m old.lp old.process → IsHistory m new.lp new.process) → IsProcessKept m old new
 kept_unspent m old new unspent lp goes_on = record { lp = lp; history = λ before _. goes_on (before unspent) }
-
-pub sound_handlings : (m : Meaning) (v w : ProcessView) → v ≡ w → v.spent ≡ false → IsSound v → w.lp < m.lps → HasHistory m w → AreHandlings m v.process.done
-sound_handlings m v w e unspent h there history =
-    let mine : IsHistory m v.lp v.process = subst (HasHistory m) (sym e) history unspent in
-    fold_handlings m v.lp v.process.done (state_before v.process.done v.process.state) (number_before v.process.done v.process.number) v.process.state v.process.number (subst (λ (u : ProcessView). u.lp < m.lps) (sym e) there) mine h.own_done h.few_before

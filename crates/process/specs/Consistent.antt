@@ -9,8 +9,7 @@ use Rattle.eventkey.specs.declared.Sign.TheVariants.{Minus, Plus}
 use Rattle.eventkey.specs.declared.Signed.{Signed}
 use Rattle.model.specs.Meaning.{IsLawful, IsWords, Meaning, stamp}
 use Rattle.queues.specs.Queue.{back, last_of}
-use Rattle.queues.specs.Record.{handled_from, messages, number_before, state_before}
-use Rattle.queues.specs.declared.Record.{Record}
+use Rattle.queues.specs.Record.{Record, handled_from, messages, number_before, state_before}
 use Rattle.process.specs.Process.{Process, arrive, fossils_of, handle, handling_of, number_after}
 use Rattle.process.specs.Process.{queue_of, release, sent_by, state_after, cancelled_sends}
 use Rattle.process.specs.declared.Done.{Done}

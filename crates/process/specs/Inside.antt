@@ -1,4 +1,4 @@
--- The process that contracts see: its queue and its history as one record of lists.
+-- The process that contracts see: its queue and its history in one record.
 use Rattle.std.specs.Prelude.{◌≡◌, false}
 use Rattle.queues.specs.Record.{messages}
 use Rattle.process.specs.View.{IsSound, ProcessView}
@@ -10,14 +10,14 @@ view_of p = record {
   floor = p.floor;
   spent = p.spent;
   process = record {
-    done = p.history;
+    done = p.history.done;
     waiting = p.queue.waiting;
     antis = p.queue.antis;
-    state = p.state;
-    number = p.number;
+    state = p.history.state;
+    number = p.history.number;
   };
 }
 
 -- a process that is not spent is sound, and its queue and its history have the same done messages
 abbrev pub IsWholeProcess : Inside → Type 0
-IsWholeProcess p = p.spent ≡ false → (p.queue.done ≡ messages p.history) × IsSound (view_of p)
+IsWholeProcess p = p.spent ≡ false → (p.queue.done ≡ messages p.history.done) × IsSound (view_of p)

@@ -2,8 +2,12 @@
 pub mod Process
 pub mod View
 pub mod Consistent
--- Inside: the parts of a process in the code
-pub mod Later
+-- For callers: reports as bytes
+pub mod Reports
+-- Inside: the handlings of a process as the bytes of their reports, and the other parts of a process
+-- in the code
+pub mod Handlings
+pub mod Course
 pub mod Inside
 -- For tests: a ring of three processes
 pub mod Ring

@@ -8,8 +8,7 @@ use Rattle.eventkey.specs.Signed.{minus}
 use Rattle.eventkey.specs.declared.Signed.{Signed}
 use Rattle.model.specs.Meaning.{Meaning, stamp}
 use Rattle.queues.specs.Record.{handled_before, handled_from, messages, number_before, sent_in}
-use Rattle.queues.specs.Record.{state_before}
-use Rattle.queues.specs.declared.Record.{Record}
+use Rattle.queues.specs.Record.{Record, state_before}
 use Rattle.queues.specs.Queue.{Queue, arrived, back, but_last, last_of}
 
 -- one logical process: what it handled and has not reported yet, its two bags, its state and its

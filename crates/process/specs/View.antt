@@ -8,8 +8,7 @@ use Rattle.eventkey.specs.Signed.{plus}
 use Rattle.eventkey.specs.declared.Signed.{Signed}
 use Rattle.model.specs.Meaning.{Meaning}
 use Rattle.queues.specs.Queue.{IsInOrder, first_before}
-use Rattle.queues.specs.Record.{messages}
-use Rattle.queues.specs.declared.Record.{Record}
+use Rattle.queues.specs.Record.{Record, messages}
 use Rattle.process.specs.Process.{Process, arrive, cancelled_sends, fossils_of, handle}
 use Rattle.process.specs.Process.{handling_of, has_room, number_after, queue_of, release}
 use Rattle.process.specs.Process.{state_after}

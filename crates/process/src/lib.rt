@@ -11,15 +11,17 @@ ghost use Rattle.process.specs.Consistent.{ReleasesAreUnseen};
 ghost use Rattle.process.specs.View.{HistoriesBegin};
 ghost use Rattle.process.specs.declared.ProcessFault.TheVariants.{NoMemory};
 
-mod fossils;
+mod encoding;
+mod handlings;
+mod history;
 mod logical;
-mod past;
+mod reports;
 mod sends;
 
 use eventkey::Message;
 pub use logical::Process;
-use model::{SavedState, Sent};
-pub(crate) use past::Handled;
+use model::{Sent, State};
+pub use reports::{Report, Reports, ReportsLeft};
 use std::alloc::{AllocError, AllocFailed};
 use thiserror::Error;
 
@@ -67,7 +69,7 @@ pub struct Done {
     /// The messages that the handling sent, in the order of sending.
     pub sent: Sent,
     /// The state words after the handling.
-    pub after: SavedState,
+    pub after: State,
     /// The send number after the handling.
     pub number_after: u64,
 }

@@ -1,30 +1,30 @@
 // A logical process.
 
-ghost use Rattle.std.specs.Prelude.{◌≡◌, ◌≢◌, ◌↔◌, ◌<◌, ◌≤◌, ◌++◌, ◌^◌, ◌==◌, [], length};
-ghost use Rattle.std.specs.Prelude.{nat_lt, not, true, false, Ok, Err, None};
+ghost use Rattle.std.specs.Prelude.{◌≡◌, ◌≢◌, ◌↔◌, ◌<◌, ◌≤◌, ◌++◌, ◌^◌, [], length};
+ghost use Rattle.std.specs.Prelude.{not, true, false, Ok, Err, None};
 ghost use Rattle.std.specs.Prelude.{IfOk, IfErr, IfSome, OnOk, OnErr};
 ghost use Rattle.model.specs.Meaning.{Meaning};
 ghost use Rattle.queues.specs.Queue.{first_before, first_time};
 ghost use Rattle.queues.specs.Record.{first_handled};
 ghost use Rattle.process.specs.Consistent.{IsHistory};
-ghost use Rattle.process.specs.View.{CollectionHasCause, DeliveryHasCause, HasDone, HasHistory};
+ghost use Rattle.process.specs.View.{CollectionHasCause, DeliveryHasCause, HasDone};
 ghost use Rattle.process.specs.View.{HasRun, IsCollected, IsDelivered, IsProcessKept, IsRefused};
 ghost use Rattle.process.specs.View.{IsSound, RunHasCause, has_early, has_foreign, loaded};
 ghost use Rattle.process.specs.declared.ProcessFault.TheVariants.{BelowFloor, NotMine};
 ghost use Rattle.process.specs.declared.ProcessFault.TheVariants.{NumberLimit, Spent};
 
-use crate::fossils::report;
+use crate::history::History;
 use crate::sends::{append, cancel_sends};
-use crate::{Done, Handled, ProcessFault};
+use crate::{ProcessFault, Reports};
 use eventkey::{Message, Sign, Signed};
-use model::{Model as Simulated, Sent, State, Words};
+use model::{Model as Simulated, Sent, Words};
 use queues::InputQueue;
 use smallvec::SmallVec;
 use std::alloc::Global;
 
-/// A logical process (Jefferson 1985): its input queue, the history of what it handled, its state
-/// words and its send number. An allocation failure, or sends past the limit of the send number,
-/// leave it spent.
+/// A logical process (Jefferson 1985): its input queue, and the history of what it handled, with
+/// its state words and its send number. An allocation failure, or sends past the limit of the send
+/// number, leave it spent.
 ///
 /// No rollback undoes a handling below the floor, since no message below it is accepted.
 pub struct Process {
@@ -33,9 +33,7 @@ pub struct Process {
     floor: u64,
     spent: bool,
     queue: InputQueue,
-    history: Handled,
-    state: State,
-    number: u64,
+    history: History,
 }
 
 // Handwritten: with a derived drop, each caller that drops a process proves again how its parts are
@@ -49,8 +47,6 @@ impl Drop for Process {
             spent: _,
             queue: _,
             history: _,
-            state: _,
-            number: _,
         } = self;
     }
 }
@@ -110,9 +106,7 @@ impl Process {
             floor,
             spent: false,
             queue: InputQueue::of_waiting(alloc, pending)?,
-            history: Handled::new(alloc),
-            state: State::from_words(words),
-            number,
+            history: History::new(alloc, words, number),
         })
     }
 
@@ -150,14 +144,14 @@ impl Process {
     pub fn state(&self) -> &Words
         ensures { result.now.items ≡ self.now.process.state }
     {
-        self.state.words()
+        self.history.words()
     }
 
     /// Returns the number of the next send.
     pub fn number(&self) -> u64
         ensures { result ≡ self.now.process.number }
     {
-        self.number
+        self.history.number()
     }
 
     /// Returns the number of handlings that a rollback can still undo.
@@ -189,20 +183,13 @@ impl Process {
     /// Refuses with `Spent` if the process is spent, with `NotMine` if the message is for another
     /// process, and with `BelowFloor` if its time is below the floor, whatever its sign; these
     /// change nothing. `NoMemory`, only if an allocation fails, leaves the process spent.
-    pub fn deliver<M: Simulated>(
-        &mut self,
-        model: &M,
-        signed: Signed,
-        out: &mut Vec<Signed>,
-    ) -> Result<(), ProcessFault>
-        requires lp { self.old.lp < (M.meaning model.now).lps }
-        requires history { HasHistory (M.meaning model.now) self.old }
+    pub fn deliver(&mut self, signed: Signed, out: &mut Vec<Signed>) -> Result<(), ProcessFault>
         ensures delivered { OnOk result
             (IsDelivered signed self.old self.new out.old.items out.new.items) }
         ensures causes { DeliveryHasCause signed self.old result }
         ensures refused { IfErr result (λ fault.
             IsRefused fault self.old self.new out.old.items out.new.items) }
-        ensures kept { IsProcessKept (M.meaning model.now) self.old self.new }
+        ensures kept { (m : Meaning) → IsProcessKept m self.old self.new }
         ensures floor { self.new.floor ≡ self.old.floor }
     {
         if self.spent {
@@ -218,9 +205,8 @@ impl Process {
         self.spent = true;
         let arrival = self.queue.arrive(signed)?;
         let back = arrival.back();
-        cancel_sends(&self.history, back, out)?;
-        self.history
-            .roll_back(model, back, &mut self.state, &mut self.number)?;
+        cancel_sends(self.alloc, &self.history, back, out)?;
+        self.history.roll_back(back);
         self.spent = false;
         Ok(())
     }
@@ -283,36 +269,34 @@ impl Process {
         };
         // The laws of the model require these ranges.
         message.ranged();
-        model::ranged(self.state.words().as_slice());
+        model::ranged(self.history.words().as_slice());
         let mut next = SmallVec::new(self.alloc);
         let mut sends = SmallVec::new(self.alloc);
         model.handle_into(
             self.alloc,
             self.lp,
-            self.state.words(),
+            self.history.words(),
             &message,
             &mut next,
             &mut sends,
         );
         let count = sends.len() as u64;
+        let number = self.history.number();
         // Cleared at the end, so that an allocation failure midway leaves the process spent.
         self.spent = true;
-        if count > Process::NUMBER_LIMIT - self.number {
+        if count > Process::NUMBER_LIMIT - number {
             return Err(ProcessFault::NumberLimit);
         }
         let sent = Sent::stamped(
             self.alloc,
             self.lp,
             message.time(),
-            self.number,
+            number,
             sends.as_slice(),
         )?;
         append(out, Sign::Plus, sent.as_slice())?;
         self.queue.take_next(end)?;
-        self.history
-            .push_handling(message, &self.state, self.number, sent)?;
-        self.state = State::from_words(next);
-        self.number += count;
+        self.history.push(&message, sent.as_slice(), next)?;
         self.spent = false;
         Ok(true)
     }
@@ -322,42 +306,30 @@ impl Process {
     ///
     /// Refuses with `Spent` if the process is spent, which changes nothing. `NoMemory`, only if an
     /// allocation fails, leaves the process spent.
-    pub fn collect<M: Simulated>(
-        &mut self,
-        model: &M,
-        floor: u64,
-    ) -> Result<Vec<Done>, ProcessFault>
-        requires lp { self.old.lp < (M.meaning model.now).lps }
-        requires history { HasHistory (M.meaning model.now) self.old }
+    pub fn collect(&mut self, floor: u64) -> Result<Reports, ProcessFault>
         requires floor { self.old.floor ≤ floor }
         ensures collected { IfOk result (λ fossils.
-            IsCollected floor self.old self.new [] fossils.items) }
+            IsCollected floor self.old self.new [] fossils) }
         ensures causes { CollectionHasCause self.old result }
         ensures refused { IfErr result (λ fault. IsRefused fault self.old self.new [] []) }
-        ensures kept { IsProcessKept (M.meaning model.now) self.old self.new }
+        ensures kept { (m : Meaning) → IsProcessKept m self.old self.new }
         ensures floor { OnErr result (self.new.floor ≡ self.old.floor) }
     {
-        let mut fossils = Vec::new(self.alloc);
-        self.collect_into(model, floor, &mut fossils)?;
+        let mut fossils = Reports::new(self.alloc);
+        self.collect_into(floor, &mut fossils)?;
         Ok(fossils)
     }
 
-    /// Does the same as `collect`, but appends the handlings to `fossils`, which may hold some of
-    /// them after an allocation failure.
-    pub fn collect_into<M: Simulated>(
-        &mut self,
-        model: &M,
-        floor: u64,
-        fossils: &mut Vec<Done>,
-    ) -> Result<(), ProcessFault>
-        requires lp { self.old.lp < (M.meaning model.now).lps }
-        requires history { HasHistory (M.meaning model.now) self.old }
+    /// Does the same as `collect`, but appends the handlings to `fossils`, which a refusal leaves
+    /// unchanged.
+    pub fn collect_into(&mut self, floor: u64, fossils: &mut Reports) -> Result<(), ProcessFault>
         requires floor { self.old.floor ≤ floor }
         ensures collected { OnOk result
-            (IsCollected floor self.old self.new fossils.old.items fossils.new.items) }
+            (IsCollected floor self.old self.new fossils.old fossils.new) }
         ensures causes { CollectionHasCause self.old result }
         ensures refused { IfErr result (λ fault. IsRefused fault self.old self.new [] []) }
-        ensures kept { IsProcessKept (M.meaning model.now) self.old self.new }
+        ensures unchanged { OnErr result (fossils.new ≡ fossils.old) }
+        ensures kept { (m : Meaning) → IsProcessKept m self.old self.new }
         ensures floor { OnErr result (self.new.floor ≡ self.old.floor) }
     {
         if self.spent {
@@ -366,15 +338,7 @@ impl Process {
         // Cleared at the end, so that an allocation failure midway leaves the process spent.
         self.spent = true;
         self.queue.release(floor);
-        report(
-            self.alloc,
-            model,
-            floor,
-            &mut self.history,
-            &self.state,
-            self.number,
-            fossils,
-        )?;
+        self.history.release(floor, fossils)?;
         self.floor = floor;
         self.spent = false;
         Ok(())

@@ -7,7 +7,7 @@ ghost use Rattle.eventkey.specs.declared.Signed.{Signed};
 ghost use Rattle.queues.specs.Queue.{last_of};
 ghost use Rattle.queues.specs.Record.{sent_in};
 
-use crate::Handled;
+use crate::history::History;
 use eventkey::{Message, Sign, Signed};
 use std::alloc::{AllocError, Global};
 
@@ -35,18 +35,19 @@ pub(crate) fn append(
 /// Appends the antimessages of all that the last `count` handlings sent, those of the earliest
 /// first. After an allocation failure some of them are in `out`.
 pub(crate) fn cancel_sends(
-    history: &Handled,
+    alloc: Global,
+    history: &History,
     count: usize,
     out: &mut Vec<Signed>,
 ) -> Result<(), AllocError>
-    requires { count ≤ length history.now }
+    requires { count ≤ length history.now.done }
     ensures out { OnOk result
-        (out.new.items ≡ out.old.items ++ map minus (sent_in (last_of count history.now))) }
+        (out.new.items ≡ out.old.items ++ map minus (sent_in (last_of count history.now.done))) }
     ensures begins { (more : List Signed) × (out.new.items ≡ out.old.items ++ more) }
 {
-    let kept = history.len() - count;
-    for undone in 0..count {
-        append(out, Sign::Minus, history.sent(kept + undone))?;
+    let mut undone = history.last_reports(count);
+    while let Some(report) = undone.next() {
+        append(out, Sign::Minus, report.sent(alloc).as_slice())?;
     }
     Ok(())
 }

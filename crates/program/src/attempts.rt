@@ -85,7 +85,7 @@ impl<'a> GoingOn<'a> {
 }
 
 /// How the options of a run say that a full disk is archived.
-fn archive_of<'a>(args: &RunArgs<'a>) -> Option<Archive<'a>> {
+pub(crate) fn archive_of<'a>(args: &RunArgs<'a>) -> Option<Archive<'a>> {
     if !args.archive_when_full {
         return None;
     }

@@ -22,6 +22,7 @@ use std::rt::Files;
 use std::time::Clock;
 use terminal::Progress;
 use texts::Described;
+use views::BegunDisk;
 
 /// Makes a log for the model of a file, on a disk: an empty one, or one that goes on from the world
 /// of another disk.
@@ -114,6 +115,25 @@ fn say_refusal<P: Progress>(alloc: Global, refused: &NotArchived, progress: &mut
     };
     if let Ok(line) = line {
         progress.goes_on(line.as_str());
+    }
+}
+
+/// Removes the parts beyond those that are kept of the disk with which a run begins: a run that was
+/// killed at a change of disks may have left one more. A disk that is no segment has none.
+pub(crate) fn remove_surplus<M, R, P>(
+    rt: &R,
+    model: &M,
+    begun: &BegunDisk<FileDisk>,
+    archive: Option<Archive<'_>>,
+    progress: &mut P,
+)
+where
+    M: Modelled,
+    R: Files<File = File> + AllocGlobal,
+    P: Progress,
+{
+    if let (Some(newest), Some(into)) = (begun.believed(), archive) {
+        remove_older(rt, model, into, newest, progress);
     }
 }
 

@@ -7,11 +7,12 @@ ghost use Rattle.program.specs.Command.{are_rounds_cheap, most_of, plan_of, sche
 ghost use Rattle.program.specs.Command.{IsRunOutput};
 ghost use Rattle.views.specs.Views.{Begins, Prints};
 
-use crate::attempts::{NodePrograms, run_attempts};
+use crate::attempts::{NodePrograms, archive_of, run_attempts};
 use crate::described::{WithText, simulated, simulated_with_text};
 use crate::ending::end_run;
 use crate::making::disk_of;
 use crate::outcomes::of_command;
+use crate::parts::remove_surplus;
 use crate::watching::Watching;
 use cli::{BatchOption, NodeArgs, RunArgs};
 use commands::{CommandFault, Simulated};
@@ -195,7 +196,7 @@ where
 
 /// Runs the model of a file on its disk, which is made first if that is asked for and it is not
 /// there. The file is read once: node programs that the run starts, also after a fault, get the text
-/// that was read.
+/// that was read. Parts of the disk beyond those that are kept are removed first, under its lock.
 ///
 /// Returns, in this order, the faults of the model file, of the disk's file, of the node programs,
 /// and of the run, or of its archive if its disk was full.
@@ -235,6 +236,7 @@ where
     progress.takes(way_of(rt, &args, of.model.lps()));
     warn_of_folder(rt, args.sockets, progress);
     warn_of_rounds(&args, progress);
+    remove_surplus(rt, &of.model, &begun, archive_of(&args), progress);
     let mut watch = Watching::new(rt, progress, &args);
     watch.before = begun.events_before();
     let ended = run_attempts::<M, R, P, O>(rt, nodes, of, begun, args, &mut watch, out)?;

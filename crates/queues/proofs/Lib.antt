@@ -2,12 +2,10 @@ pub mod Arrivals
 pub mod Buckets
 pub mod Exits
 pub mod Firsts
-pub mod Forward
 pub mod Halves
 pub mod Moves
 pub mod Places
 pub mod Queues
 pub mod Releases
-pub mod Spaced
 pub mod Splits
 pub mod Undone

@@ -1,7 +1,7 @@
--- The last records or messages of a list, and messages added to a bag and removed again.
+-- The last elements of a list, and messages added to a bag and removed again.
 use Rattle.std.proofs.Common.{false, ◌≡◌, ℕ, ◌+◌, ◌-◌, ◌<◌, ◌≤◌, List, [], ◌∷◌, ◌++◌, suc, refl, ap, sym, ◌∙◌, arith, length, take, drop, get_or, inl, inr}
 use Rattle.std.proofs.lemmas.Bool.{cases_Bool, ltb-true, ltb-false, lt-ltb, le-ltb}
-use Rattle.std.proofs.lemmas.List.{get_or-drop, length-append, length-drop, drop_all, take_all, take_more}
+use Rattle.std.proofs.lemmas.List.{get_or-drop, length-append, length-drop, take_more}
 use Rattle.std.specs.Prelude.{nat_lt}
 use Rattle.eventkey.proofs.Bags.{IsAscending-add, IsAscending-add_all, IsAscending-remove_all, copies-add, copies-add_all, copies-remove_all, remove_one_none, same_ascending}
 use Rattle.eventkey.specs.Bag.{IsAscending, add, add_all, copies, is_among, remove_all, remove_one}
@@ -42,9 +42,6 @@ module _ {X : Type 0} where
   next_of xs i n d h =
       take_more (drop i xs) n d (omega (arith, length-drop i xs)) ∙ ap (λ (x : X). take n (drop i xs) ++ x ∷ []) (get_or-drop i xs n d)
 
-  pub last_of-taken : (n : ℕ) (xs : List X) → n ≤ length xs → take n (drop (length xs - n) xs) ≡ last_of n xs
-  last_of-taken n xs h = take_all n (drop (length xs - n) xs) (omega (arith, length-drop (length xs - n) xs)) ∙ sym (last_of-drop n xs h)
-
 pub add_all-last : (xs bag : List Message) (m : Message) → add_all (xs ++ m ∷ []) bag ≡ add m (add_all xs bag)
 add_all-last [] bag m = refl
 add_all-last (x ∷ xs) bag m = add_all-last xs (add x bag) m
@@ -69,10 +66,3 @@ put_one_back m bag up = taken_out (m ∷ []) bag up
 
 pub not_taken : (m : Message) (old new : List Message) → is_among m old ≡ false → new ≡ remove_one m old → new ≡ old
 not_taken m old new e h = h ∙ remove_one_none m old (let none = ltb-false 0 (copies m old) e in omega arith)
-
-module _ {X : Type 0} where
-  pub but_last-none : (n : ℕ) (xs : List X) → n ≡ 0 → xs ≡ but_last n xs
-  but_last-none n xs e = sym (but_last-take n xs (omega (arith, e)) ∙ take_all (length xs - n) xs (omega (arith, e)))
-
-  pub last_of-none : (n : ℕ) (xs : List X) → n ≡ 0 → [] ≡ last_of n xs
-  last_of-none n xs e = sym (last_of-drop n xs (omega (arith, e)) ∙ drop_all (length xs - n) xs (omega (arith, e)))

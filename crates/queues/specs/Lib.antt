@@ -1,11 +1,9 @@
 -- For callers: the input queue and the five cases of an arrival; records of what was handled
 pub mod Queue
 pub mod Record
--- Inside: the parts of a queue, which records of a history have their state words, the place of a
--- message in a list, what leaves a bucket, the messages at hand
+-- Inside: the parts of a queue, the place of a message in a list, what leaves a bucket, the messages
+-- at hand
 pub mod Inside
-pub mod Sparse
-pub mod Kept
 pub mod Place
 pub mod Buckets
 pub mod Bag

@@ -1,47 +1,18 @@
-//! The queues of a logical process (Jefferson 1985): its input queue, and the history of what it
-//! handled.
+//! The input queue of a logical process (Jefferson 1985).
 #![tactic(auto)]
 
 ghost use Rattle.queues.specs.Queue.{QueuesArriveByCases, QueuesStayApart, QueuesStayInOrder};
 ghost use Rattle.queues.specs.Queue.{QueuesCount, ArrivalsCountUndone, back_of};
-ghost use Rattle.queues.specs.Record.{HandlingsAreKept, RecordsPart};
+ghost use Rattle.queues.specs.Record.{RecordsPart};
 ghost use Rattle.std.specs.Prelude.{◌≡◌};
 
 mod bag;
 mod bucket;
 mod done;
 mod event_list;
-mod handled;
 mod input;
-mod kept;
-mod sparse;
 
-use eventkey::Message;
-pub use handled::History;
 pub use input::InputQueue;
-use model::{Sent, State};
-
-/// One handled message: what the process was before it, and the messages that the handling sent.
-#[derive(Drop)]
-pub struct Record {
-    /// The message that was handled.
-    pub message: Message,
-    /// The state words before it.
-    pub before: State,
-    /// The send number before it.
-    pub number_before: u64,
-    /// The messages that the handling sent, in the order of sending.
-    pub sent: Sent,
-}
-
-/// One handled message that has left the history: no rollback reaches it any more.
-#[derive(Drop)]
-pub struct Released {
-    /// The message that was handled.
-    pub message: Message,
-    /// The messages that the handling sent, in the order of sending.
-    pub sent: Sent,
-}
 
 /// The outcome of the arrival of a message or an antimessage.
 #[derive(Clone, Copy, Debug, PartialEq, Eq)]
@@ -77,10 +48,4 @@ pub fn law_of_queues()
     ensures count { QueuesCount }
     ensures back { ArrivalsCountUndone }
     ensures parts { RecordsPart }
-{}
-
-/// States the law of histories: records that a model made stay records of that model whatever
-/// happens to a history, so their state words can be rebuilt.
-pub fn law_of_records()
-    ensures kept { HandlingsAreKept }
 {}

@@ -4,7 +4,7 @@ use crate::rows::{signed, signed_list};
 use eventkey::{Listed, Signed};
 use gvt::{Ledger, LedgerFault};
 use node::{Parcel, Reply};
-use process::Done;
+use process::Reports;
 use std::alloc::{AllocError, Global};
 use std::test::Fail;
 
@@ -15,7 +15,7 @@ fn reply(alloc: Global, out: &[Signed], low: Option<u64>) -> Result<Reply, Alloc
     Ok(Reply {
         out: Listed::from_vec(out.to_vec(alloc)?),
         low,
-        fossils: Listed::from_vec(Vec::<Done>::new(alloc)),
+        fossils: Reports::new(alloc),
         ran: 0,
     })
 }

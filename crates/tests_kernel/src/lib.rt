@@ -1,14 +1,10 @@
 //! Tests of the simulation kernel through its public functions: messages, input queues, the plain
-//! runner, histories, processes, nodes, and the ledger. They have a crate of their own, since a
-//! crate with tests is proved twice.
+//! runner, processes, nodes, and the ledger. They have a crate of their own, since a crate with
+//! tests is proved twice.
 #![tactic(auto)]
 
 #[cfg(test)]
 mod arrivals;
-#[cfg(test)]
-mod counted;
-#[cfg(test)]
-mod histories;
 #[cfg(test)]
 mod ledgers;
 #[cfg(test)]
@@ -17,8 +13,6 @@ mod messages;
 mod nodes;
 #[cfg(test)]
 mod processes;
-#[cfg(test)]
-mod rollbacks;
 #[cfg(test)]
 mod rows;
 #[cfg(test)]

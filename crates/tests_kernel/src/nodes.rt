@@ -9,10 +9,10 @@ mod schedules;
 
 use crate::rows::{Row, are, messages, numbers, part, row, signed, signed_list};
 use eventkey::{Listed, Message, Sign, Signed};
-use model::{Model as Simulated, State, Words};
+use model::{Model as Simulated, State};
 use models::TokenRing;
 use node::{Load, Node, NodeFault, Parcel, Part, Reply};
-use process::{Done, Process};
+use process::{Done, Process, Reports};
 use std::alloc::{AllocError, Global};
 use std::process::Abort;
 use std::test::Fail;
@@ -27,14 +27,12 @@ pub(crate) struct Tried<M: Simulated + Drop> {
 impl<M: Simulated + Drop> std::marker::Model for Tried<M> {
     ghost use Rattle.std.specs.Prelude.{◌≡◌, false};
     ghost use Rattle.node.specs.Handling.{Node};
-    ghost use Rattle.node.specs.Kept.{HasHistories};
 
     ghost Value = { Node };
 
     ghost view = { λ t. t.node };
 
-    ghost invariant = { λ t. (t.node.spent ≡ false → (M.meaning t.model).lps ≡ t.node.lps)
-        × HasHistories (M.meaning t.model) t.node };
+    ghost invariant = { λ t. t.node.spent ≡ false → (M.meaning t.model).lps ≡ t.node.lps };
 }
 
 impl<M: Simulated + Drop> Tried<M> {
@@ -93,12 +91,11 @@ impl<M: Simulated + Drop> Tried<M> {
 fn process(alloc: Global, lp: u32, number: u64, waiting: Vec<Message>) -> Part
     ensures { IsInRange result }
 {
-    let mut words = Words::new(alloc);
-    words.push_reserved(0);
     Part {
         lp,
         number: number.min(Process::NUMBER_LIMIT),
-        words: State::from_words(words),
+        // one word fits in the value, so this allocates nothing
+        words: State::from_slice(alloc, &[0]).unwrap(),
         pending: Listed::from_vec(waiting),
     }
 }
@@ -187,7 +184,7 @@ fn is_expected(alloc: Global, reply: &Reply, line: &str) -> Result<bool, Fail> {
         reply.out.as_slice() == out.as_slice()
             && reply.low == part(line, 3).parse().ok()
             && Some(reply.ran) == part(line, 4).parse().ok()
-            && are_fossils(reply.fossils.as_slice(), part(line, 5))?,
+            && are_fossils(reply.fossils.to_vec(alloc)?.as_slice(), part(line, 5))?,
     )
 }
 
@@ -244,11 +241,7 @@ fn handle_many(
     floor: u64,
 ) -> Result<(u32, usize, usize), NodeFault> {
     let reply = node.handle(deliver, budget, floor)?;
-    Ok((
-        reply.ran,
-        reply.out.as_slice().len(),
-        reply.fossils.as_slice().len(),
-    ))
+    Ok((reply.ran, reply.out.as_slice().len(), reply.fossils.len()))
 }
 
 // Memory for handlings is allocated for the messages that exist, not for the budget.

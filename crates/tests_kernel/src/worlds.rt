@@ -2,7 +2,7 @@
 
 use crate::rows::{Row, are, message, row};
 use eventkey::Message;
-use model::{Outgoing, SavedState, State, Words, World, WorldFault, ranged, stamp};
+use model::{Outgoing, State, Words, World, WorldFault, ranged, stamp};
 use models::TokenRing;
 use smallvec::SmallVec;
 use std::alloc::Global;
@@ -188,20 +188,20 @@ fn a_state_holds_sixteen_words(rt: HostRuntime) -> Result<(), Fail> {
         words.push(word)?;
     }
     ranged(words.as_slice());
-    let state = State::from_words(words);
-    assert_eq!(rt; state.words().as_slice().len(), 16);
-    assert_eq!(rt; state.into_words().as_slice()[15], 15);
+    let state = State::from_slice(rt.alloc(), words.as_slice())?;
+    assert_eq!(rt; state.as_slice().len(), 16);
+    assert_eq!(rt; state.as_slice()[15], 15);
     Ok(())
 }
 
 #[test]
-fn a_saved_state_is_a_copy(rt: HostRuntime) -> Result<(), Fail> {
-    let few = SavedState::from_slice(rt.alloc(), &[7, 8])?;
-    let many = SavedState::from_slice(rt.alloc(), &[1, 2, 3, 4, 5])?;
+fn a_state_is_a_copy(rt: HostRuntime) -> Result<(), Fail> {
+    let few = State::from_slice(rt.alloc(), &[7, 8])?;
+    let many = State::from_slice(rt.alloc(), &[1, 2, 3, 4, 5])?;
     assert_eq!(rt; few.as_slice(), [7, 8].as_slice());
     assert_eq!(rt; many.as_slice(), [1, 2, 3, 4, 5].as_slice());
     assert!(rt; few != many);
-    assert!(rt; few == SavedState::from_slice(rt.alloc(), &[7, 8])?);
+    assert!(rt; few == State::from_slice(rt.alloc(), &[7, 8])?);
     Ok(())
 }
 

@@ -10,15 +10,14 @@ use crate::steps::{MADE, MIXED, judged_steps_of, steps_of};
 use commitlog::LogFault;
 use coordinator::{Answer, Session, SessionFault, Step};
 use disk::{MemDisk, NotOpened};
-use eventkey::Listed;
 use judging::{Differences, Judged, ReportDifference, judged_ports};
 use loopback::{LoopPort, loop_ports};
 use models::TokenRing;
 use node::{Load, NodeFault, Parcel, Reply};
-use process::Done;
+use process::{Done, Reports};
 use recovery::RecoveryFault;
 use runs::{Batch, Plan, RunFault, Schedule, Watch, run_session};
-use std::alloc::Global;
+use std::alloc::{AllocError, Global};
 use std::mem::swap;
 use std::test::Fail;
 use wire::{Port, PortFault, WireFault};
@@ -209,6 +208,7 @@ enum Swapped {
 /// A port to a node that swaps this of two reports in each reply, of that at `place` and of the next.
 #[derive(Drop)]
 struct Faulty<P: Port + Drop> {
+    alloc: Global,
     port: P,
     swapped: Swapped,
     place: usize,
@@ -232,15 +232,29 @@ impl<P: Port + Drop> Port for Faulty<P> {
             fossils,
             ran,
         } = self.port.take()?;
-        let mut reports = fossils.into_vec();
-        swap_reports(reports.as_mut_slice(), self.swapped, self.place);
+        // refused memory swaps nothing: a port that has replied may not fail any more
+        let fossils = match swapped_in(self.alloc, &fossils, self.swapped, self.place) {
+            Ok(Some(swapped)) => swapped,
+            _ => fossils,
+        };
         Ok(Reply {
             out,
             low,
-            fossils: Listed::from_vec(reports),
+            fossils,
             ran,
         })
     }
+}
+
+fn swapped_in(
+    alloc: Global,
+    fossils: &Reports,
+    swapped: Swapped,
+    place: usize,
+) -> Result<Option<Reports>, AllocError> {
+    let mut reports = fossils.to_vec(alloc)?;
+    swap_reports(reports.as_mut_slice(), swapped, place);
+    Reports::from_slice(alloc, reports.as_slice())
 }
 
 fn swap_reports(reports: &mut [Done], swapped: Swapped, place: usize) {
@@ -269,6 +283,7 @@ fn reported(
     let ring = TokenRing::new(3, 2, 1);
     let port = LoopPort::new(alloc, &ring);
     let node = Faulty {
+        alloc,
         port,
         swapped,
         place,
@@ -276,7 +291,7 @@ fn reported(
     let mut judge = Judged::new(alloc, &ring, node, every);
     judge.load(load(alloc, 0, 2, &TIMES)?)?;
     let nothing = round(&mut judge, alloc, 1)?;
-    if nothing.fossils.as_slice().len() > 0 || judge.refused().is_some() {
+    if nothing.fossils.len() > 0 || judge.refused().is_some() {
         return Err(Fail::from("an event is reported or refused too early"));
     }
     let fault = match round(&mut judge, alloc, 9) {

@@ -11,10 +11,10 @@ use coordinator::{FrontView, Session, SessionFault};
 use disk::{MemDisk, NotOpened, Returned};
 use eventkey::{Listed, Message, Sign, Signed};
 use loopback::LoopPort;
-use model::{Model as Simulated, SavedState, Sent, Words};
+use model::{Model as Simulated, Sent, State, Words};
 use models::{Phold, TokenRing};
 use node::{Load, NodeFault, Parcel, Reply};
-use process::Done;
+use process::{Done, Reports};
 use recovery::{RecoveryFault, header};
 use runs::{
     Batch, Plan, RunFault, Schedule, SimulationFault, Watch, committed, run_session, sequential,
@@ -129,7 +129,7 @@ fn silence(alloc: Global) -> Reply {
     Reply {
         out: Listed::from_vec(Vec::new(alloc)),
         low: None,
-        fossils: Listed::from_vec(Vec::new(alloc)),
+        fossils: Reports::new(alloc),
         ran: 0,
     }
 }
@@ -142,7 +142,7 @@ fn said(alloc: Global, lie: Lie, is_first: bool, reply: Reply) -> Result<Reply, 
         fossils,
         ran,
     } = reply;
-    let mut reports = fossils.into_vec();
+    let mut reports = fossils.to_vec(alloc)?;
     if lie == Lie::Early {
         tell_early(alloc, is_first, &mut reports)?;
     } else if reports.len() > 0 {
@@ -151,7 +151,7 @@ fn said(alloc: Global, lie: Lie, is_first: bool, reply: Reply) -> Result<Reply, 
     Ok(Reply {
         out: Listed::from_vec(sent_by(alloc, lie, out.into_vec())?),
         low: low_of(lie, low),
-        fossils: Listed::from_vec(reports),
+        fossils: Reports::from_slice(alloc, reports.as_slice())?.unwrap_or(fossils),
         ran,
     })
 }
@@ -199,7 +199,7 @@ fn tell_early(alloc: Global, is_first: bool, reports: &mut Vec<Done>) -> Result<
         reports.push(Done {
             message,
             sent: Sent::from_slice(alloc, &[next])?,
-            after: SavedState::from_slice(alloc, &[1])?,
+            after: State::from_slice(alloc, &[1])?,
             number_after: 2,
         })?;
     } else if reports.len() > 0 && reports[0].message == message {
@@ -234,7 +234,7 @@ fn copy_of(alloc: Global, done: &Done) -> Result<Done, AllocError> {
     Ok(Done {
         message: done.message,
         sent: Sent::from_slice(alloc, done.sent.as_slice())?,
-        after: SavedState::from_slice(alloc, done.after.as_slice())?,
+        after: State::from_slice(alloc, done.after.as_slice())?,
         number_after: done.number_after,
     })
 }
@@ -243,7 +243,7 @@ fn copy_of(alloc: Global, done: &Done) -> Result<Done, AllocError> {
 fn alter(alloc: Global, lie: Lie, done: &mut Done) -> Result<(), AllocError> {
     match lie {
         // a word that no state has
-        Lie::State => done.after = SavedState::from_slice(alloc, &[987_654_321])?,
+        Lie::State => done.after = State::from_slice(alloc, &[987_654_321])?,
         Lie::Number => done.number_after = done.number_after.saturating_add(1),
         Lie::Unsent => done.sent = Sent::from_slice(alloc, &[])?,
         Lie::Receiver | Lie::Later => done.sent = moved_all(alloc, lie, done.sent.as_slice())?,
@@ -338,7 +338,7 @@ fn is_of_memory(fault: &RunFault) -> bool {
 }
 
 /// Whether these states are the same.
-fn same_states(states: &[SavedState], plain: &[Words]) -> bool {
+fn same_states(states: &[State], plain: &[Words]) -> bool {
     if states.len() != plain.len() {
         return false;
     }

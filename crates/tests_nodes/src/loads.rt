@@ -5,7 +5,7 @@ ghost use Rattle.wire.specs.Port.{IsLoadInRange};
 ghost use Rattle.wire.specs.Port.Stage.{Idle};
 
 use eventkey::{Listed, Message, Signed};
-use model::{State, Words};
+use model::State;
 use node::{Load, Parcel, Part, Reply};
 use std::alloc::{AllocError, Global};
 use std::test::Fail;
@@ -33,13 +33,11 @@ pub fn load_of(
     requires number { number ≤ 2 ^ 63 }
     ensures { IfOk result (λ load. IsLoadInRange load) }
 {
-    let mut words = Words::new(alloc);
-    words.push_reserved(0);
     let mut parts = Vec::new(alloc);
     parts.push(Part {
         lp,
         number,
-        words: State::from_words(words),
+        words: State::from_slice(alloc, &[0])?,
         pending: Listed::from_vec(pending),
     })?;
     Ok(Load {

@@ -81,7 +81,7 @@ fn is_reply(reply: &Reply) -> bool {
         Some(sent) => out.len() == 1 && sent.message.time() == 3,
         None => false,
     };
-    is_sent && reply.ran == 1 && reply.low.is_none() && reply.fossils.as_slice().is_empty()
+    is_sent && reply.ran == 1 && reply.low.is_none() && reply.fossils.len() == 0
 }
 
 #[test]

@@ -8,9 +8,9 @@ use frames::{
     Frame, FrameKind, encode_fault, encode_load, encode_parcel, encode_reply, read_frame, read_raw,
     read_whole_frame, read_whole_raw,
 };
-use model::{SavedState, Sent, append_words, read_words};
+use model::{Sent, State, append_words, read_words};
 use node::{NodeFault, Parcel, Reply};
-use process::Done;
+use process::{Done, Reports};
 use std::alloc::{AllocError, Global};
 use std::io::ErrorKind;
 use std::test::Fail;
@@ -64,20 +64,19 @@ fn reply(alloc: Global) -> Result<Reply, Fail> {
     Ok(Reply {
         out: Listed::from_vec([Signed { sign, message }].to_vec(alloc)?),
         low: None,
-        fossils: Listed::from_vec(Vec::new(alloc)),
+        fossils: Reports::new(alloc),
         ran: 1,
     })
 }
 
-fn done(alloc: Global, message: Message, sent: Message) -> Result<Vec<Done>, AllocError> {
-    let mut fossils = Vec::new(alloc);
-    fossils.push(Done {
+fn done(alloc: Global, message: Message, sent: Message) -> Result<Reports, AllocError> {
+    let handling = Done {
         message,
         sent: Sent::from_slice(alloc, &[sent])?,
-        after: SavedState::from_slice(alloc, &[1])?,
+        after: State::from_slice(alloc, &[1])?,
         number_after: 2,
-    })?;
-    Ok(fossils)
+    };
+    Ok(Reports::from_slice(alloc, &[handling])?.unwrap_or(Reports::new(alloc)))
 }
 
 /// The reply of `LADEN`.
@@ -88,7 +87,7 @@ fn laden(alloc: Global) -> Result<Reply, Fail> {
     Ok(Reply {
         out: Listed::from_vec([Signed { sign, message }].to_vec(alloc)?),
         low: Some(9),
-        fossils: Listed::from_vec(fossils),
+        fossils,
         ran: 3,
     })
 }
@@ -134,7 +133,7 @@ fn words_in(alloc: Global, bytes: &[u8]) -> Result<Option<(usize, [u64; 2], usiz
     let Some((state, rest)) = read_words(alloc, bytes)? else {
         return Ok(None);
     };
-    let words = state.words().as_slice();
+    let words = state.as_slice();
     let ends = [words.first(), words.last()].map(|word| word.copied().unwrap_or(0));
     Ok(Some((words.len(), ends, rest.len())))
 }

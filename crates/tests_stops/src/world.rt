@@ -1,7 +1,7 @@
 // Compares a front with the world of the plain runner.
 
 use coordinator::FrontView;
-use model::{SavedState, Words, WorldParts};
+use model::{State, Words, WorldParts};
 
 /// Whether the front equals the world of the plain run.
 pub fn is_front(plain: &WorldParts, front: FrontView<'_>) -> bool {
@@ -13,7 +13,7 @@ pub fn is_front(plain: &WorldParts, front: FrontView<'_>) -> bool {
 }
 
 /// Whether these are the same states, process by process.
-fn same_states(states: &[SavedState], words: &[Words]) -> bool {
+fn same_states(states: &[State], words: &[Words]) -> bool {
     states.len() == words.len()
         && states
             .iter()

@@ -265,21 +265,24 @@ fn removed_at(rt: &HostRuntime, path: &PathBuf, at: u64) -> Result<([bool; 3], u
     Ok((parts_at(rt, path.as_str())?, removed, is_left))
 }
 
-// The calls are: look at the name of each part, and open it, the newest first; remove the first, and the
-// second. A part that cannot be looked at ends the walk to older ones.
+// The calls are: look at the name of the disk, and open it; the same for each part, the newest
+// first; remove the first, and the second. A part that cannot be looked at ends the walk to older
+// ones.
 //
-// Each row has the call that is refused (8: none), which parts are there then, how many are removed, and
-// whether a removal was refused.
-const REMOVALS: [(u64, [bool; 3], u32, bool); 9] = [
+// Each row has the call that is refused (10: none), which parts are there then, how many are
+// removed, and whether one beyond the newest was not.
+const REMOVALS: [(u64, [bool; 3], u32, bool); 11] = [
     (0, [true, true, true], 0, false),
     (1, [true, true, true], 0, false),
     (2, [true, true, true], 0, false),
     (3, [true, true, true], 0, false),
-    (4, [true, false, true], 1, false),
-    (5, [true, false, true], 1, false),
-    (6, [true, true, true], 0, true),
-    (7, [false, true, true], 1, true),
-    (8, [false, false, true], 2, false),
+    (4, [true, true, true], 0, true),
+    (5, [true, true, true], 0, true),
+    (6, [true, false, true], 1, true),
+    (7, [true, false, true], 1, true),
+    (8, [true, true, true], 0, true),
+    (9, [false, true, true], 1, true),
+    (10, [false, false, true], 2, false),
 ];
 
 /// Whether each refusal leaves the newest part, and those that were not removed.
@@ -296,6 +299,21 @@ fn keep_newest(rt: &HostRuntime, path: &PathBuf) -> Result<bool, Fail> {
 #[test]
 fn a_refused_call_while_parts_are_removed_leaves_the_newest(rt: HostRuntime) -> Result<(), Fail> {
     assert!(rt; on_file(&rt, "parts", keep_newest)?);
+    Ok(())
+}
+
+/// Whether no part is removed by a time from which the disk does not go on.
+fn keep_those_of_another_time(rt: &HostRuntime, path: &PathBuf) -> Result<bool, Fail> {
+    let is_made = make_parts(rt, path)?;
+    let (removed, is_left) = remove_parts(rt, rt.alloc(), &ring(), path.as_str(), TIMES[1], 0)?;
+    let there = parts_at(rt, path.as_str())?;
+    clear(rt, path)?;
+    Ok(is_made && (removed, is_left) == (0, false) && there == [true; 3])
+}
+
+#[test]
+fn parts_of_a_disk_that_goes_on_from_another_time_stay(rt: HostRuntime) -> Result<(), Fail> {
+    assert!(rt; on_file(&rt, "others", keep_those_of_another_time)?);
     Ok(())
 }
 

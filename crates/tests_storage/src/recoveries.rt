@@ -4,7 +4,7 @@ use crate::logs::{add, open};
 use commitlog::{Log, LogFault, format};
 use disk::{DiskFault, DiskPlan, MemDisk, Torn};
 use eventkey::{Listed, Message};
-use model::{SavedState, WorldFault};
+use model::{State, WorldFault};
 use models::TokenRing;
 use recovery::{Front, RecoveryFault, encode_events, events_length, header, recover};
 use std::alloc::{AllocError, Global};
@@ -103,7 +103,7 @@ fn log_of_all(alloc: Global) -> Result<Log<MemDisk>, Fail> {
 fn front_at_the_end(alloc: Global) -> Result<Front, Fail> {
     let mut states = Vec::new(alloc);
     for count in [2, 2, 1] {
-        states.push(SavedState::from_slice(alloc, &[count])?)?;
+        states.push(State::from_slice(alloc, &[count])?)?;
     }
     Ok(Front {
         g: END,

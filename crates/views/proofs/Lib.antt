@@ -2,3 +2,6 @@ pub mod Printed
 mod Runs
 mod Streams
 mod Segments
+mod Letters
+pub mod Tabled
+mod Members

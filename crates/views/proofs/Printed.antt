@@ -1,5 +1,5 @@
 -- What the commands print, in a common form.
-use Rattle.std.specs.Io.KnownBytes.{Appends, Keeps}
+use Rattle.std.specs.Io.KnownBytes.{Appends}
 use Rattle.std.specs.Prelude.{◌≡◌, ◌⊎◌, ◌≢◌, ◌++◌, [], ℕ, List, None, Option, Result, Some, Ok, Err, OnOk, OnErr, IsErr}
 use Rattle.std.proofs.Common.{ap, append_assoc, refl, inl, inr, subst, sym, ◌∙◌}
 use Rattle.std.proofs.lemmas.List.{append-nil}
@@ -13,7 +13,7 @@ use Rattle.model.specs.Meaning.{Meaning}
 use Rattle.recovery.specs.Ends.{HoldsLog, IsOurs}
 use Rattle.model.specs.declared.WorldFault.{WorldFault}
 use Rattle.texts.specs.Text.{log_text}
-use Rattle.views.specs.Views.{Begins, Describes, Grows, IsCommitted, IsNamed, IsSimulationSoFar, IsWholeSimulation, IsWorldOn, Prints, PrintsBeginning, PrintsLog, PrintsRun, run_text}
+use Rattle.views.specs.Views.{Begins, Describes, IsCommitted, IsSimulationSoFar, IsWholeSimulation, IsWorldOn, Prints, PrintsBeginning, PrintsLog, PrintsRun, run_text}
 use Rattle.views.specs.declared.fault.ViewFault.{ViewFault}
 use Rattle.views.specs.declared.fault.ViewFault.TheVariants as fault
 
@@ -82,7 +82,7 @@ committed_is meaning says model shown w on = record {
 }
 
 -- a text that is written whole is a beginning of itself
-taken_whole : {old new : Option (List ℕ)} {text : List ℕ} → Appends old new text → TakesBeginning old new text
+pub taken_whole : {old new : Option (List ℕ)} {text : List ℕ} → Appends old new text → TakesBeginning old new text
 taken_whole {text = text} h = record { taken = text; left = []; whole = sym (append-nil text); appended = h }
 
 module _ {M : Type 0} (meaning : M → Meaning) (says : Describes M) {old new : Option (List ℕ)} where
@@ -113,48 +113,3 @@ begun_after old mid new a b h k = record {
   whole = ap (λ s. a ++ s) k.whole ∙ sym (append_assoc a k.taken k.left);
   appended = appended_both old mid new a k.taken h k.appended;
 }
-
-written_begun : (old mid new : Option (List ℕ)) (a : List ℕ) → Appends old mid a → new ≡ mid → TakesBeginning old new a
-written_begun old mid new a h same = record {
-  taken = a;
-  left = [];
-  whole = sym (append-nil a);
-  appended = subst (λ (o : Option (List ℕ)). Appends old o a) (sym same) h;
-}
-
-module _ (First : List ℕ → Type 0) (old mid new : Option (List ℕ)) {T : Type 0} where
-  pub named_printed : (r : Result T ViewFault) → Prints First old mid → OnOk r (Prints IsNamed mid new) → OnOk r (Prints IsNamed old new)
-  named_printed (Ok x) p q = (p.0 ++ q.0, tt, appended_both old mid new p.0 q.0 p.2 q.2)
-  named_printed (Err e) p q = tt
-
-  pub named_begun : (A B : Type 0) → (A → new ≡ mid) → (r : Result T ViewFault) → Prints First old mid → OnErr r (A ⊎ Begins IsNamed mid new) → OnErr r (B ⊎ Begins IsNamed old new)
-  named_begun A B same (Ok x) p q = tt
-  named_begun A B same (Err e) p (inl a) = inr (p.0, tt, written_begun old mid new p.0 p.2 (same a))
-  named_begun A B same (Err e) p (inr q) = inr (p.0 ++ q.0, tt, begun_after old mid new p.0 q.0 p.2 q.2)
-
-pub named_part : {T : Type 0} (First : List ℕ → Type 0) (old new : Option (List ℕ)) (A : Type 0) (r : Result T ViewFault) → OnErr r (A ⊎ Begins First old new) → OnErr r (A ⊎ Begins IsNamed old new)
-named_part First old new A (Ok x) q = tt
-named_part First old new A (Err e) (inl a) = inl a
-named_part First old new A (Err e) (inr q) = inr (q.0, tt, q.2)
-
--- some text after another
-pub grows_then : {old mid new : Option (List ℕ)} → Grows old mid → Grows mid new → Grows old new
-grows_then {old} {mid} {new} h k = record { taken = h.taken ++ k.taken; appended = appended_both old mid new h.taken k.taken h.appended k.appended }
-
-pub grows_kept : (old mid new : Option (List ℕ)) → Grows old mid → Keeps mid new → Grows old new
-grows_kept None mid new h k = record { taken = []; appended = tt }
-grows_kept (Some xs) None new h k = absurd h.appended
-grows_kept (Some xs) (Some ys) None h k = absurd k
-grows_kept (Some xs) (Some ys) (Some zs) h k = record { taken = h.taken; appended = k ∙ h.appended }
-
-pub grows_written : {T E : Type 0} {old new : Option (List ℕ)} {text : List ℕ} (r : Result T E) → Writes old new r text → Grows old new
-grows_written {text = text} (Ok x) w = record { taken = text; appended = w.all }
-grows_written (Err e) w = record { taken = w.part.taken; appended = w.part.appended }
-
-module _ {old new : Option (List ℕ)} where
-  pub grown_printed : Grows old new → Prints IsNamed old new
-  grown_printed h = (h.taken, tt, h.appended)
-
-  pub grown_begun : {T : Type 0} (A : Type 0) (r : Result T ViewFault) → Grows old new → OnErr r (A ⊎ Begins IsNamed old new)
-  grown_begun A (Ok x) h = tt
-  grown_begun A (Err e) h = inr (h.taken, tt, record { taken = h.taken; left = []; whole = sym (append-nil h.taken); appended = h.appended })

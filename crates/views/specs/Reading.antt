@@ -1,7 +1,8 @@
 -- What the read-only commands print by their arguments, of a disk that may be a segment.
-use Rattle.std.specs.Prelude.{◌≡◌, ℕ, Bool, List, [], ◌++◌, None, Option, Some, codes, decimal}
+use Rattle.std.specs.Prelude.{◌≡◌, ℕ, Bool, List, [], ◌∷◌, ◌++◌, None, Option, Some, codes, decimal}
 use Rattle.std.specs.Prelude.{false, length, max, true}
 use Rattle.std.specs.Option.{option_map}
+use Rattle.std.specs.Str.{IsUtf8}
 use Rattle.segments.specs.Archiving.{IsBegunAt, IsOriginOn, events_before}
 use Rattle.cli.specs.declared.command.DrawArgs.{DrawArgs}
 use Rattle.cli.specs.declared.command.Format.{Format}
@@ -21,7 +22,9 @@ use Rattle.texts.specs.ModelFile.{IsModelFile}
 use Rattle.upkeep.specs.Verified.{IsOfWorld}
 use Rattle.upkeep.specs.declared.verifying.Verified.{Verified}
 pub use Rattle.views.specs.Beginnings.{BeginsInRow, BeginsWith, IsFrontOn, IsOn, IsOnRow}
-use Rattle.views.specs.Views.{Describes, IsCourse, IsDrawn, IsLogged, IsNamed, IsPending, IsShown}
+use Rattle.views.specs.Tables.{Field, IsBoth, IsFields, IsObject, IsTable, field, row_table, whole}
+use Rattle.views.specs.Tables.{whole_if}
+use Rattle.views.specs.Views.{Describes, IsCourse, IsDrawn, IsLogged, IsPending, IsShown}
 use Rattle.views.specs.Views.{IsBegunBy, IsSimulationBy, IsSomeChecked, IsStats, Shows, verified_text}
 use Rattle.views.specs.declared.looks.Look.{Look}
 use Rattle.views.specs.declared.looks.Look.TheVariants.{Check, Draw, Info, Log, Seq, Show, Stats}
@@ -34,16 +37,16 @@ IsPicture meaning says args None text =
     IsDrawn meaning says args.of.disk args.load args.from args.to args.processes text
 IsPicture meaning says args (Some trace) text = IsCourse text
 
--- what `draw` prints: a histogram, which scripts hold, or a picture
+-- what `draw` prints: a histogram, which is some UTF-8, or a picture
 abbrev pub IsPictureOf : {M : Type 0} → (M → Meaning) → Describes M → DrawArgs → {S : Type 0} →
     Option S → List ℕ → Type 0
-IsPictureOf meaning says args (Some word) = IsNamed
+IsPictureOf meaning says args (Some word) = IsUtf8
 IsPictureOf meaning says args None = IsPicture meaning says args args.trace
 
--- what `draw` prints: a value change dump, which scripts hold, or one of these
+-- what `draw` prints: a value change dump, which is some UTF-8, or one of these
 abbrev pub IsDrawnBy : {M : Type 0} → (M → Meaning) → Describes M → Bool → DrawArgs → List ℕ →
     Type 0
-IsDrawnBy meaning says true args = IsNamed
+IsDrawnBy meaning says true args = IsUtf8
 IsDrawnBy meaning says false args = IsPictureOf meaning says args args.histogram
 
 -- The time from which a segment goes on and the number of events before it, for its origin.
@@ -113,11 +116,42 @@ pub record IsStatusText {M : Type 0} (meaning : M → Meaning) (says : Describes
   pub found : IsFoundOn (meaning model) end found_there lines
   pub is : text ≡ inspection_text (since_origin lines found_there) ++ lines_text lines
 
+-- the same as a row of a table
+abbrev pub status_row : Option (ℕ × ℕ) → Inspection → List Field
+status_row lines shown = field (codes "time") (whole shown.time)
+    ∷ field (codes "end") (whole shown.end)
+    ∷ field (codes "events") (whole shown.events)
+    ∷ field (codes "records") (whole shown.records)
+    ∷ field (codes "checkpoints") (whole shown.checkpoints)
+    ∷ field (codes "last_checkpoint") (whole_if shown.last_checkpoint)
+    ∷ field (codes "ends") (whole shown.ends)
+    ∷ field (codes "seals") (whole shown.seals)
+    ∷ field (codes "used") (whole shown.used)
+    ∷ field (codes "sectors") (whole shown.sectors)
+    ∷ field (codes "pace_commits") (whole shown.pace.commits)
+    ∷ field (codes "pace_sectors") (whole shown.pace.sectors)
+    ∷ field (codes "pace_from") (whole shown.pace.from)
+    ∷ field (codes "origin") (whole_if (option_map (λ x. x.0) lines))
+    ∷ field (codes "events_before") (whole_if (option_map (λ x. x.1) lines))
+    ∷ []
+
+-- The table with that row.
+pub record IsStatusTable {M : Type 0} (meaning : M → Meaning) (says : Describes M) (f : Format)
+    (text : List ℕ) : Type 0 where
+  pub source : List ℕ
+  pub model : M
+  pub end : ℕ
+  pub found_there : Inspection
+  pub lines : Option (ℕ × ℕ)
+  pub file : IsModelFile says source model end
+  pub found : IsFoundOn (meaning model) end found_there lines
+  pub is : text ≡ row_table f (status_row lines (since_origin lines found_there))
+
 -- what `status` prints in a format
 abbrev pub IsStatusBy : {M : Type 0} → (M → Meaning) → Describes M → Format → List ℕ → Type 0
 IsStatusBy meaning says format.Text = IsStatusText meaning says
-IsStatusBy meaning says format.Csv = IsNamed
-IsStatusBy meaning says format.Json = IsNamed
+IsStatusBy meaning says format.Csv = IsStatusTable meaning says format.Csv
+IsStatusBy meaning says format.Json = IsStatusTable meaning says format.Json
 
 -- the line of `verify` on a segment whose origin is believed, and on one that goes on from another
 -- disk
@@ -185,50 +219,56 @@ pub record IsVerifiedAs {M S : Type 0} (meaning : M → Meaning) (says : Describ
 abbrev pub IsVerifiedBy : {M : Type 0} → (M → Meaning) → Describes M → VerifyArgs → List ℕ → Type 0
 IsVerifiedBy meaning says args = IsVerifiedAs meaning says args.after
 
--- what `log`, `show` and `stats` print as text, with the model's names or without them
+-- what `log` and `show` print as text; with the model's names it is some UTF-8
 abbrev pub IsLoggedAs : {M : Type 0} → (M → Meaning) → Describes M → Bool → LogArgs → List ℕ → Type 0
-IsLoggedAs meaning says true args = IsNamed
+IsLoggedAs meaning says true args = IsUtf8
 IsLoggedAs meaning says false args = IsLogged meaning says args.from args.to args.process
 
 abbrev pub IsShownAs : {M : Type 0} → (M → Meaning) → Describes M → Bool → Bool → List ℕ → Type 0
-IsShownAs meaning says true pending = IsNamed
+IsShownAs meaning says true pending = IsUtf8
 IsShownAs meaning says false true = IsPending meaning says
 IsShownAs meaning says false false = IsShown meaning says
 
+-- what `stats` prints: the figures, and if they are asked for those of named words, some UTF-8
 abbrev pub IsStatsWith : {M S : Type 0} → (M → Meaning) → Describes M → Bool → Option S → Bool →
     List ℕ → Type 0
-IsStatsWith meaning says true disk csv = IsNamed
+IsStatsWith meaning says true disk csv = IsBoth (IsStats meaning says disk csv) IsUtf8
 IsStatsWith meaning says false disk csv = IsStats meaning says disk csv
 
 -- and in a format
 abbrev pub IsLoggedBy : {M : Type 0} → (M → Meaning) → Describes M → Format → LogArgs → List ℕ →
     Type 0
 IsLoggedBy meaning says format.Text args = IsLoggedAs meaning says args.names args
-IsLoggedBy meaning says format.Csv args = IsNamed
-IsLoggedBy meaning says format.Json args = IsNamed
+IsLoggedBy meaning says format.Csv args = IsTable format.Csv
+IsLoggedBy meaning says format.Json args = IsTable format.Json
 
 abbrev pub IsShownBy : {M : Type 0} → (M → Meaning) → Describes M → Format → ShowArgs → List ℕ →
     Type 0
 IsShownBy meaning says format.Text args = IsShownAs meaning says args.names args.pending
-IsShownBy meaning says format.Csv args = IsNamed
-IsShownBy meaning says format.Json args = IsNamed
+IsShownBy meaning says format.Csv args = IsTable format.Csv
+IsShownBy meaning says format.Json args = IsTable format.Json
 
 abbrev pub IsStatsIn : {M : Type 0} → (M → Meaning) → Describes M → Format → StatsArgs → List ℕ →
     Type 0
 IsStatsIn meaning says format.Text args = IsStatsWith meaning says args.names args.of.disk false
 IsStatsIn meaning says format.Csv args = IsStatsWith meaning says args.names args.of.disk true
-IsStatsIn meaning says format.Json args = IsNamed
+IsStatsIn meaning says format.Json args = IsObject args.names
 
 -- what `stats` prints: one table, or the figures of the run
 abbrev pub IsStatsBy : {M T : Type 0} → (M → Meaning) → Describes M → Option T → StatsArgs →
     List ℕ → Type 0
-IsStatsBy meaning says (Some table) args = IsNamed
+IsStatsBy meaning says (Some table) args = IsTable args.format
 IsStatsBy meaning says None args = IsStatsIn meaning says args.format args
+
+-- what `info` prints: the text that a disk keeps of its model, or what the disk is
+abbrev pub IsInfo : Bool → Format → List ℕ → Type 0
+IsInfo true f = IsUtf8
+IsInfo false f = IsFields f
 
 -- what a command that only reads prints
 abbrev pub IsSeen : {M : Type 0} → (M → Meaning) → Describes M → Shows M → Look → List ℕ → Type 0
 IsSeen meaning says shows (Status args) text = IsStatusBy meaning says args.format text
-IsSeen meaning says shows (Info args) text = IsNamed text
+IsSeen meaning says shows (Info args) text = IsInfo args.model args.format text
 IsSeen meaning says shows (Verify args) text = IsVerifiedBy meaning says args text
 IsSeen meaning says shows (Log args) text = IsLoggedBy meaning says args.format args text
 IsSeen meaning says shows (Show args) text = IsShownBy meaning says args.format args text

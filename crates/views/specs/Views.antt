@@ -2,7 +2,7 @@
 use Rattle.std.specs.Io.KnownBytes.{Appends}
 use Rattle.std.specs.Prelude.{◌≡◌, ◌^◌, ◌-◌, ◌&&◌, ℕ, Bool, true, false, List}
 use Rattle.std.specs.Prelude.{◌++◌, None, Option, Some, codes, decimal, filter, map, if◌then◌else◌}
-use Rattle.std.specs.Prelude.{◌⊎◌, [], is_none, max, unwrap_or, ⊤}
+use Rattle.std.specs.Prelude.{◌⊎◌, [], is_none, max, unwrap_or}
 use Rattle.cli.specs.declared.command.Format.{Format}
 use Rattle.cli.specs.declared.command.Format.TheVariants as format
 use Rattle.disk.specs.declared.file.FileFault.{FileFault}
@@ -41,6 +41,7 @@ use Rattle.upkeep.specs.declared.verifying.Verified.{Verified}
 use Rattle.upkeep.specs.declared.verifying.VerifyFault.{VerifyFault}
 use Rattle.upkeep.specs.declared.verifying.VerifyFault.TheVariants as verifying
 use Rattle.views.specs.Beginnings.{IsWorldOf}
+use Rattle.views.specs.Tables.{IsTable}
 use Rattle.views.specs.declared.fault.ViewFault.{ViewFault}
 use Rattle.views.specs.declared.fault.ViewFault.TheVariants.{BadModel, BadTrace, NoMemory}
 use Rattle.views.specs.declared.fault.ViewFault.TheVariants as fault
@@ -62,15 +63,6 @@ Prints is old new = (text : List ℕ) × is text × Appends old new text
 -- the writer has taken a beginning of one of these texts
 abbrev pub Begins : (List ℕ → Type 0) → Option (List ℕ) → Option (List ℕ) → Type 0
 Begins is old new = (text : List ℕ) × is text × TakesBeginning old new text
-
--- the writer has taken some text and nothing else, as a part of one that scripts hold
-pub record Grows (old new : Option (List ℕ)) : Type 0 where
-  pub taken : List ℕ
-  pub appended : Appends old new taken
-
--- a table, or a text with the names that a model has for its words: any text, since scripts hold it
-abbrev pub IsNamed : List ℕ → Type 0
-IsNamed text = ⊤
 
 -- ---- faults
 
@@ -299,14 +291,14 @@ pub record IsSimulationSoFar {M : Type 0} (meaning : M → Meaning) (says : Desc
 -- what `seq` prints in a format
 abbrev pub IsSimulationBy : {M : Type 0} → (M → Meaning) → Describes M → Format → List ℕ → Type 0
 IsSimulationBy meaning says format.Text = IsWholeSimulation meaning says
-IsSimulationBy meaning says format.Csv = IsNamed
-IsSimulationBy meaning says format.Json = IsNamed
+IsSimulationBy meaning says format.Csv = IsTable format.Csv
+IsSimulationBy meaning says format.Json = IsTable format.Json
 
 -- and of which text a beginning if it is refused
 abbrev pub IsBegunBy : {M : Type 0} → (M → Meaning) → Describes M → Format → List ℕ → Type 0
 IsBegunBy meaning says format.Text = IsSimulationSoFar meaning says
-IsBegunBy meaning says format.Csv = IsNamed
-IsBegunBy meaning says format.Json = IsNamed
+IsBegunBy meaning says format.Csv = IsTable format.Csv
+IsBegunBy meaning says format.Json = IsTable format.Json
 
 -- `ok`, then the values of a model file
 abbrev pub checked_text : List ℕ → List ℕ

@@ -6,7 +6,8 @@ ghost use Rattle.std.specs.Str.{IsUtf8};
 ghost use Rattle.eventkey.specs.Writing.{Writes};
 ghost use Rattle.texts.specs.Mistakes.{AreMistakes};
 ghost use Rattle.texts.specs.ModelFile.{IsModelFile};
-ghost use Rattle.views.specs.Views.{checked_text, Begins, IsBegunBy, IsChecked, IsNamed, IsSetIn};
+ghost use Rattle.views.specs.Tables.{IsTable};
+ghost use Rattle.views.specs.Views.{checked_text, Begins, IsBegunBy, IsChecked, IsSetIn};
 ghost use Rattle.views.specs.Views.{IsSimulationBy, IsSimulationSoFar, IsSomeChecked};
 ghost use Rattle.views.specs.Views.{IsWholeSimulation, Prints, PrintsBeginning, PrintsLog};
 ghost use Rattle.views.specs.Views.{PrintsRun};
@@ -74,9 +75,9 @@ where
     M: Described,
     R: Files + AllocGlobal,
     O: Write,
-    ensures ok { OnOk result (Prints IsNamed (O.contents out.old) (O.contents out.new)) }
+    ensures ok { OnOk result (Prints (IsTable format) (O.contents out.old) (O.contents out.new)) }
     ensures err { OnErr result ((out.new ≡ out.old)
-        ⊎ Begins IsNamed (O.contents out.old) (O.contents out.new)) }
+        ⊎ Begins (IsTable format) (O.contents out.old) (O.contents out.new)) }
 {
     let (model, end): (M, u64) = read_model_file(rt, file)?;
     write_run_table(rt.alloc(), &model, end, format, out)?;

@@ -1,12 +1,13 @@
-// The histogram of a word of messages. No clause says what it is: scripts hold it.
+// The histogram of a word of messages. Clauses say only that it is UTF-8: scripts hold it.
 
 ghost use Rattle.std.specs.Prelude.{◌≡◌, ◌⊎◌, OnErr, OnOk};
-ghost use Rattle.views.specs.Views.{Begins, IsNamed, Prints};
+ghost use Rattle.std.specs.Str.{IsUtf8};
+ghost use Rattle.views.specs.Views.{Begins, Prints};
 
 use crate::fault::ViewFault;
 use crate::files::read_model_file;
 use crate::looking::time_of;
-use crate::named::write_named;
+use crate::named::print_text;
 use crate::rows::{letter_of, sorts_of};
 use cli::{SourceArgs, most_sectors};
 use pictures::{Bins, Histogram, Tallied, Tally, Word, bins_of, tally_of, write_histogram};
@@ -29,9 +30,9 @@ where
     M: Described,
     R: Files<File = File> + AllocGlobal,
     O: Write,
-    ensures ok { OnOk result (Prints IsNamed (O.contents out.old) (O.contents out.new)) }
+    ensures ok { OnOk result (Prints IsUtf8 (O.contents out.old) (O.contents out.new)) }
     ensures err { OnErr result ((out.new ≡ out.old)
-        ⊎ Begins IsNamed (O.contents out.old) (O.contents out.new)) }
+        ⊎ Begins IsUtf8 (O.contents out.old) (O.contents out.new)) }
 {
     let (model, end): (M, u64) = read_model_file(rt, of.model)?;
     let Some(named) = word_named(model.names(), name) else {
@@ -41,7 +42,7 @@ where
     let tally = tally_of(rt.alloc(), &model, end, to, named.word)?;
     let picture = picture_of(rt.alloc(), &named, &tally, to.min(end))?;
     match str::from_utf8(picture.as_slice()) {
-        Ok(text) => write_named(text, out),
+        Ok(text) => print_text(text, out),
         Err(_) => Err(ViewFault::NoMemory),
     }
 }

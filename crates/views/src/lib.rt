@@ -4,6 +4,7 @@
 
 mod apart;
 mod beginnings;
+mod cells;
 mod differing;
 mod drawing;
 mod fault;

@@ -1,7 +1,8 @@
 // The sum and the mean of each named number over the processes that have it.
 
+use crate::cells::{Cell, Decimal};
 use crate::rows::kinds_of;
-use crate::tables::{Cell, Decimal, Rows};
+use crate::tables::Rows;
 use model::Words;
 use std::alloc::{AllocError, Global};
 use texts::{Column, Kind, Names};

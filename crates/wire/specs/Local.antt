@@ -2,7 +2,6 @@
 use Rattle.std.specs.Prelude.{Err, None, Some, false, true, ℕ, ◌≡◌, ◌⊎◌}
 use Rattle.model.specs.Meaning.{Meaning}
 use Rattle.node.specs.Handling.{Node, answer, load_refusal, refusal}
-use Rattle.node.specs.Kept.{HasHistories}
 use Rattle.node.specs.declared.Load.{Load}
 use Rattle.node.specs.declared.NodeFault.TheVariants as node
 use Rattle.node.specs.declared.Parcel.{Parcel}
@@ -57,9 +56,8 @@ IsTakeCause m n parcel (Peer f) =
     ((answer m n parcel).result ≡ Err f) ⊎ ((refusal n parcel ≡ None) × (f ≡ node.NoMemory))
 IsTakeCause m n parcel fault = ⊥
 
--- the node is of this model, is not spent, and its histories are what the model does
+-- the node is of this model and not spent
 abbrev pub IsOfModel : Meaning → Held → Type 0
-IsOfModel m (Idle node) = (node.spent ≡ false) × (node.lps ≡ m.lps) × HasHistories m node
-IsOfModel m (Posted node parcel) =
-    (node.spent ≡ false) × (node.lps ≡ m.lps) × HasHistories m node
+IsOfModel m (Idle node) = (node.spent ≡ false) × (node.lps ≡ m.lps)
+IsOfModel m (Posted node parcel) = (node.spent ≡ false) × (node.lps ≡ m.lps)
 IsOfModel m held = Unit {0}

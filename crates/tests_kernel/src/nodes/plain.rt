@@ -2,7 +2,7 @@
 // what it needs. It frees no records, and counts those that it has reported.
 
 use super::*;
-use model::{SavedState, Sends, Sent};
+use model::{Sends, Sent, State, Words};
 use models::Relay;
 
 /// A handling: the state and the number of the next send, before it and after it.
@@ -212,7 +212,7 @@ fn done(alloc: Global, handled: &Handled) -> Result<Done, AllocError> {
     Ok(Done {
         message: handled.message,
         sent: Sent::from_slice(alloc, handled.sent.as_slice())?,
-        after: SavedState::from_slice(alloc, &[handled.after.0])?,
+        after: State::from_slice(alloc, &[handled.after.0])?,
         number_after: handled.after.1,
     })
 }
@@ -290,7 +290,9 @@ impl PlainNode {
         Ok(Reply {
             out: Listed::from_vec(out),
             low: self.low(),
-            fossils: Listed::from_vec(fossils),
+            fossils: Reports::from_slice(self.alloc, fossils.as_slice())?.unwrap_or(Reports::new(
+                self.alloc,
+            )),
             ran,
         })
     }

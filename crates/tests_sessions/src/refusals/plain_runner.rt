@@ -2,7 +2,7 @@
 
 use crate::disks::END;
 use coordinator::FrontView;
-use model::{Model as Simulated, SavedState, Words, World, WorldFault, WorldParts};
+use model::{Model as Simulated, State, Words, World, WorldFault, WorldParts};
 use std::alloc::Global;
 
 /// The world of the plain runner at this time.
@@ -13,7 +13,7 @@ fn world_at<M: Simulated>(alloc: Global, model: &M, time: u64) -> Result<WorldPa
 }
 
 /// Whether these are the same states, process by process.
-fn same_states(states: &[SavedState], words: &[Words]) -> bool {
+fn same_states(states: &[State], words: &[Words]) -> bool {
     states.len() == words.len()
         && states
             .iter()

@@ -1,5 +1,5 @@
 use Rattle.bench.proofs.Loads.{loaded_lps}
 use Rattle.bench.proofs.whole_node.loaded.Goals as goal
 
-pub returns-clause-lps : goal.returns-clause-lps
-returns-clause-lps g c = loaded_lps _ _ _ c.load.ensures.loaded
+pub returns : goal.returns
+returns g c = record { lps = loaded_lps _ _ _ c.load.ensures.loaded }

@@ -10,7 +10,7 @@ use Rattle.frames.proofs.writing.append_part.Goals as goal
 
 pub returns : goal.returns
 returns c =
-    let words = subst (λ (l : List ℕ). c.append_words.new.out.items ≡ c.append_u64.new.out.items ++ words_bytes l) (c.as_slice.ensures ∙ c.words.ensures) c.in_ok-append_words.ensures.ok in
+    let words = subst (λ (l : List ℕ). c.append_words.new.out.items ≡ c.append_u64.new.out.items ++ words_bytes l) c.as_slice.ensures c.in_ok-append_words.ensures.ok in
     let count = subst (λ (l : List Message). c.append_count.new.out.items ≡ c.append_words.new.out.items ++ big_bytes 4 (length l)) c.as_slice-2.ensures c.in_ok-append_count.ensures in
     on_ok_weaker c.append_messages.result
     (λ (pending : c.append_messages.new.out.items ≡ c.append_count.new.out.items ++ flat_map message_bytes c.as_slice-3.result.now).

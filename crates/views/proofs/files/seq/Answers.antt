@@ -1,4 +1,4 @@
-use Rattle.std.proofs.Common.{◌≡◌, ◌≤◌, ◌∙◌, ◌++◌, Err, ap, arith, drop, inr, length, min, refl, subst}
+use Rattle.std.proofs.Common.{◌++◌, Err, ap, arith, drop, inr, length, min, refl, subst}
 use Rattle.std.specs.Io.KnownBytes.{Appends}
 use Rattle.eventkey.proofs.Writers.{began}
 use Rattle.eventkey.specs.Writing.{TakesBeginning}

@@ -1,4 +1,5 @@
-use Rattle.std.proofs.Common.{arith, ◌∙◌}
+use Rattle.std.proofs.Common.{ap, arith, ◌∙◌}
+use Rattle.eventkey.specs.Message.{Message}
 use Rattle.judging.proofs.Handlings.{decided}
 use Rattle.judging.proofs.known.Known.is_of_model.Goals as goal
 
@@ -10,4 +11,4 @@ returns g c =
       words = c.self.inside.words.items;
       number = c.self.inside.number;
       passed = c.self.inside.passed;
-    }) c.args.done.now c.as_slice-sends.result.now c.as_slice-next.result.now c.is_reported.result (c.as_slice-sends.ensures ∙ c.handle_into.ensures.sends) (c.as_slice-next.ensures ∙ c.handle_into.ensures.state) (omega (arith, c.if-lp-lps.false, c.lps.ensures)) (omega (arith, c.if-done-gt-NUMBER_LIMIT.false)) c.is_reported.ensures)
+    }) c.args.report.now c.as_slice-sends.result.now c.as_slice-next.result.now c.is_reported.result (c.as_slice-sends.ensures ∙ c.handle_into.ensures.sends ∙ ap (λ (x : Message). (g.M.Model.meaning c.args.model.now).sends c.self.inside.lp c.self.inside.words.items x) c.message-message.ensures) (c.as_slice-next.ensures ∙ c.handle_into.ensures.state ∙ ap (λ (x : Message). (g.M.Model.meaning c.args.model.now).next_state c.self.inside.lp c.self.inside.words.items x) c.message-message.ensures) (omega (arith, c.if-lp-lps.false, c.lps.ensures)) (omega (arith, c.if-number_after-gt-NUMBER_LIMIT.false, c.number_after.ensures)) c.is_reported.ensures)

@@ -1,4 +1,4 @@
-use Rattle.std.proofs.Common.{rules}
+use Rattle.std.proofs.Common.{refl, rules}
 use Rattle.judging.proofs.Accepted.{all_judged}
 use Rattle.judging.proofs.port.JudgedPort.take.Goals as goal
 
@@ -6,7 +6,7 @@ pub returns-in-Ok-clause-passed : goal.returns-in-Ok-clause-passed
 returns-in-Ok-clause-passed g c = record {
   taken = search rules;
   judged = search rules;
-  all = rw (← c.self.view_is) (λ one. all_judged _ _ _ _ _ _ _ one c.as_slice-reports.ensures c.in-Ok.ensures.accepted);
+  all = rw (← c.self.view_is) (λ one. all_judged _ _ _ _ _ _ _ one refl c.in-Ok.ensures.accepted);
   unchanged = search rules;
   same_event = search rules;
 }

@@ -11,39 +11,30 @@ use Rattle.node.specs.Tournament.{absent}
 use Rattle.node.proofs.roster.Roster.collect_at.Goals as goal
 
 pub returns-clause-staffed : goal.returns-clause-staffed
-returns-clause-staffed g c = rw c.set_oldest.ensures
+returns-clause-staffed c = rw c.set_oldest.ensures
     (staffed_then (at_floor c.args.floor (place_of c.args.self.now)) c.args.self.now.processes.items c.args.self.now.summaries c.args.place c.index_mut-process.result.now c.requires.staffed c.requires.there c.index_mut-process.ensures.value
     c.collect_into.new.self (with_oldest c.oldest-oldest.result (get_or c.args.self.now.summaries c.args.place absent)) c.in_ok-collect_into.ensures.collected.process
     (summary_then (at_floor c.args.floor (place_of c.args.self.now)) c.args.self.now.processes.items c.args.self.now.summaries c.args.place c.index_mut-process.result.now c.requires.staffed c.requires.there c.index_mut-process.ensures.value
     c.collect_into.new.self c.oldest-oldest.result c.in_ok-collect_into.ensures.collected.process c.oldest-oldest.ensures))
 
 pub returns-clause-processes : goal.returns-clause-processes
-returns-clause-processes g c =
+returns-clause-processes c =
     processes_then (at_floor c.args.floor (place_of c.args.self.now)) c.args.self.now.processes.items c.args.self.now.summaries c.args.place c.index_mut-process.result.now c.requires.staffed c.requires.there c.index_mut-process.ensures.value
     c.collect_into.new.self c.in_ok-collect_into.ensures.collected.process
 
 pub returns-clause-fossils : goal.returns-clause-fossils
-returns-clause-fossils g c =
+returns-clause-fossils c =
     c.in_ok-collect_into.ensures.collected.fossils
-    ∙ ap (λ (q : Process). c.args.fossils.now.items ++ fossils_of c.args.floor q)
+    ∙ ap (λ (q : Process). c.args.fossils.now ++ fossils_of c.args.floor q)
     (sym (process_at (at_floor c.args.floor (place_of c.args.self.now)) c.args.self.now.processes.items c.args.self.now.summaries c.args.place c.index_mut-process.result.now c.requires.staffed c.requires.there c.index_mut-process.ensures.value))
 
 pub returns-clause-range : goal.returns-clause-range
-returns-clause-range g c ranged =
+returns-clause-range c ranged =
     subst (Every IsDoneInRange) (sym c.in_ok-collect_into.ensures.collected.fossils)
-    (Every-append IsDoneInRange c.args.fossils.now.items (fossils_of c.args.floor c.index_mut-process.result.now.process) ranged c.in_ok-collect_into.ensures.collected.range)
-
-pub collect_into-requires-clause-lp : goal.collect_into-requires-clause-lp
-collect_into-requires-clause-lp g c =
-    (modelled_at (g.M.Model.meaning c.args.model.now) c.args.self.now.processes.items c.requires.modelled c.args.place c.index_mut-process.result.now c.requires.there c.index_mut-process.ensures.value).there
-
-pub collect_into-requires-clause-history : goal.collect_into-requires-clause-history
-collect_into-requires-clause-history g c = λ _.
-    (modelled_at (g.M.Model.meaning c.args.model.now) c.args.self.now.processes.items c.requires.modelled c.args.place c.index_mut-process.result.now c.requires.there c.index_mut-process.ensures.value).history
+    (Every-append IsDoneInRange c.args.fossils.now (fossils_of c.args.floor c.index_mut-process.result.now.process) ranged c.in_ok-collect_into.ensures.collected.range)
 
 pub returns-clause-modelled : goal.returns-clause-modelled
-returns-clause-modelled g c =
-    let m = g.M.Model.meaning c.args.model.now in
+returns-clause-modelled c m modelled =
     let seated = seated_at (at_floor c.args.floor (place_of c.args.self.now)) c.args.self.now.processes.items c.args.self.now.summaries c.args.place c.index_mut-process.result.now c.requires.staffed c.requires.there c.index_mut-process.ensures.value in
-    let was = modelled_at m c.args.self.now.processes.items c.requires.modelled c.args.place c.index_mut-process.result.now c.requires.there c.index_mut-process.ensures.value in
-    modelled_again m c.args.self.now.processes.items c.requires.modelled c.args.place c.index_mut-process.result.now c.collect_into.new.self was c.in_ok-collect_into.ensures.kept (ap (λ (v : ProcessView). v.spent) c.in_ok-collect_into.ensures.collected.process ∙ seated.unspent)
+    let was = modelled_at m c.args.self.now.processes.items modelled c.args.place c.index_mut-process.result.now c.requires.there c.index_mut-process.ensures.value in
+    modelled_again m c.args.self.now.processes.items modelled c.args.place c.index_mut-process.result.now c.collect_into.new.self was (c.in_ok-collect_into.ensures.kept m) (ap (λ (v : ProcessView). v.spent) c.in_ok-collect_into.ensures.collected.process ∙ seated.unspent)

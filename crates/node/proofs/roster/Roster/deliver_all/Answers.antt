@@ -4,9 +4,9 @@ use Rattle.node.specs.Roster.{Place, place_of, processes_of, work_of}
 use Rattle.node.proofs.roster.Roster.deliver_all.Goals as goal
 
 pub loop-delivery-preserved : goal.loop-delivery-preserved
-loop-delivery-preserved g c = record {
+loop-delivery-preserved c = record {
   ready = c.in_ok-deliver.ensures.ready;
-  modelled = c.in_ok-deliver.ensures.modelled;
+  modelled = λ m modelled. c.in_ok-deliver.ensures.modelled m (c.loop-delivery.invariant.modelled m modelled);
   place = c.in_ok-deliver.ensures.place ∙ c.loop-delivery.invariant.place;
   accepted = still_accepted (place_of c.loop-delivery.self) (place_of c.deliver.new.self) (processes_of c.loop-delivery.self.processes.items) (processes_of c.deliver.new.self.processes.items) c.args.deliveries.now c.loop-delivery.delivery-index c.delivery-item.result c.loop-delivery-test.true c.delivery-item.is
       c.in_ok-deliver.ensures.place c.loop-delivery.invariant.accepted;

@@ -24,7 +24,7 @@ returns-in_err-run_one-clause-causes g c =
 pub loop-ran-preserved : goal.loop-ran-preserved
 loop-ran-preserved g c = record {
   ready = c.in_ok-run_one.ensures.ready;
-  modelled = c.in_ok-run_one.ensures.modelled;
+  modelled = λ modelled. c.in_ok-run_one.ensures.modelled (c.loop-ran.invariant.modelled modelled);
   place = c.in_ok-run_one.ensures.place ∙ c.loop-ran.invariant.place;
   begun =
       begun_more (g.M.Model.meaning c.args.model.now) (place_of c.loop-ran.self) (place_of c.args.self.now) c.loop-ran.self.processes.items c.loop-ran.self.summaries c.loop-ran.invariant.place c.loop-ran.invariant.ready c.loop-ran.ran c.loop-ran.out.items _

@@ -115,13 +115,13 @@ returns-clause-limit g c ran none =
     absurd (cc)
 
 pub returns-clause-modelled : goal.returns-clause-modelled
-returns-clause-modelled g c =
+returns-clause-modelled g c modelled =
     let m = g.M.Model.meaning c.args.model.now in
     let turn : IsTurn (place_of c.args.self.now) c.args.self.now.processes.items c.args.self.now.summaries c.args.message.now c.to.result c.index_mut-process.result.now =
     record { lp_is = c.to.ensures; staffed = c.requires.ready; least = c.requires.least; read = c.index_mut-process.ensures.value } in
     let t = on_turn (place_of c.args.self.now) c.args.self.now.processes.items c.args.self.now.summaries c.args.message.now c.to.result c.index_mut-process.result.now turn in
     let place = turn_place (place_of c.args.self.now) c.args.self.now.processes.items c.args.self.now.summaries c.args.message.now c.requires.ready c.requires.least in
     let inside = place_inside (place_of c.args.self.now) c.args.self.now.processes.items c.args.self.now.summaries c.args.message.now.to c.requires.ready place.0 place.1 in
-    let was = modelled_at m c.args.self.now.processes.items c.requires.modelled (c.to.result / c.args.self.now.nodes) c.index_mut-process.result.now (rw c.to.ensures inside) c.index_mut-process.ensures.value in
-    modelled_again m c.args.self.now.processes.items c.requires.modelled (c.to.result / c.args.self.now.nodes) c.index_mut-process.result.now c.run_one.new.self was c.in_ok-run_one.ensures.kept
+    let was = modelled_at m c.args.self.now.processes.items modelled (c.to.result / c.args.self.now.nodes) c.index_mut-process.result.now (rw c.to.ensures inside) c.index_mut-process.ensures.value in
+    modelled_again m c.args.self.now.processes.items modelled (c.to.result / c.args.self.now.nodes) c.index_mut-process.result.now c.run_one.new.self was c.in_ok-run_one.ensures.kept
     (ap (λ (v : ProcessView). v.spent) (handled g c turn).process ∙ t.at.seated.unspent)
