@@ -117,12 +117,15 @@ class Judge:
 
     def judge(self, log, show, origin=0):
         """Returns the time that `show` prints and the number of events up to there, or None and the fault with
-        which both refuse the disk. Anything but the sequential simulation up to that time is wrong. The log of a
-        disk that goes on from another one begins at the time `origin`."""
+        which both refuse the disk; `log` then prints the lines before the record at fault. Anything but the sequential
+        simulation up to that time is wrong. The log of a disk that goes on from another one begins at the time `origin`."""
         if log[0] == 1 and show[0] == 1:
+            lines = b"".join(self.lines[len(self.log_below(origin)):])
             for _, out, err in (log, show):
-                if out or not re.fullmatch(rb"timewarp: [A-Za-z ]+\n", err):
+                if not re.fullmatch(rb"timewarp: [A-Za-z ]+\n", err):
                     raise Wrong(f"it refuses the disk, and prints {out!r} and {err!r}")
+            if show[1] or not lines.startswith(log[1]) or log[1] and not log[1].endswith(b"\n"):
+                raise Wrong(f"it refuses the disk, and prints {log[1]!r} and {show[1]!r}")
             if log[2] != show[2]:
                 raise Wrong(f"log prints {log[2]!r} and show prints {show[2]!r}")
             return None, show[2].decode()[len("timewarp: "):-1]

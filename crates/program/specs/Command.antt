@@ -269,10 +269,12 @@ IsOutput meaning says shows (Seq args) text = IsSeen meaning says shows (look.Se
 IsOutput meaning says shows (Check args) text = IsSeen meaning says shows (look.Check args) text
 IsOutput meaning says shows (Node args) text = text ≡ []
 
--- a text of which a command prints a beginning if it fails: of `seq` also that of a simulation which
--- does not come to its end
+-- a text of which a command prints a beginning if it fails: of `log` also that of the first records of
+-- a disk, of `seq` also that of a simulation which does not come to its end
 abbrev pub IsOutputSoFar : {M : Type 0} → (M → Meaning) → Describes M → Shows M → Command → List ℕ →
     Type 0
+IsOutputSoFar meaning says shows (Log args) text =
+    IsSeenSoFar meaning says shows (look.Log args) text
 IsOutputSoFar meaning says shows (Seq args) text =
     IsSeenSoFar meaning says shows (look.Seq args) text
 IsOutputSoFar meaning says shows command text = IsOutput meaning says shows command text

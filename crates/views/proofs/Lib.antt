@@ -5,3 +5,6 @@ mod Segments
 mod Letters
 pub mod Tabled
 mod Members
+mod Preceded
+mod Replayed
+mod Listed

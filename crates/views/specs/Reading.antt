@@ -24,8 +24,9 @@ use Rattle.upkeep.specs.declared.verifying.Verified.{Verified}
 pub use Rattle.views.specs.Beginnings.{BeginsInRow, BeginsWith, IsFrontOn, IsOn, IsOnRow}
 use Rattle.views.specs.Tables.{Field, IsBoth, IsFields, IsObject, IsTable, field, row_table, whole}
 use Rattle.views.specs.Tables.{whole_if}
-use Rattle.views.specs.Views.{Describes, IsCourse, IsDrawn, IsLogged, IsPending, IsShown}
-use Rattle.views.specs.Views.{IsBegunBy, IsSimulationBy, IsSomeChecked, IsStats, Shows, verified_text}
+use Rattle.views.specs.Views.{Describes, IsCourse, IsDrawn, IsLogged, IsLoggedSoFar, IsPending}
+use Rattle.views.specs.Views.{IsBegunBy, IsShown, IsSimulationBy, IsSomeChecked, IsStats, Shows}
+use Rattle.views.specs.Views.{verified_text}
 use Rattle.views.specs.declared.looks.Look.{Look}
 use Rattle.views.specs.declared.looks.Look.TheVariants.{Check, Draw, Info, Log, Seq, Show, Stats}
 use Rattle.views.specs.declared.looks.Look.TheVariants.{Status, Verify}
@@ -224,6 +225,12 @@ abbrev pub IsLoggedAs : {M : Type 0} → (M → Meaning) → Describes M → Boo
 IsLoggedAs meaning says true args = IsUtf8
 IsLoggedAs meaning says false args = IsLogged meaning says args.from args.to args.process
 
+-- and of which text a beginning if it is refused
+abbrev pub IsLogBegunAs : {M : Type 0} → (M → Meaning) → Describes M → Bool → LogArgs → List ℕ →
+    Type 0
+IsLogBegunAs meaning says true args = IsUtf8
+IsLogBegunAs meaning says false args = IsLoggedSoFar meaning says args.from args.to args.process
+
 abbrev pub IsShownAs : {M : Type 0} → (M → Meaning) → Describes M → Bool → Bool → List ℕ → Type 0
 IsShownAs meaning says true pending = IsUtf8
 IsShownAs meaning says false true = IsPending meaning says
@@ -241,6 +248,13 @@ abbrev pub IsLoggedBy : {M : Type 0} → (M → Meaning) → Describes M → For
 IsLoggedBy meaning says format.Text args = IsLoggedAs meaning says args.names args
 IsLoggedBy meaning says format.Csv args = IsTable format.Csv
 IsLoggedBy meaning says format.Json args = IsTable format.Json
+
+-- and of which text `log` prints a beginning if it is refused
+abbrev pub IsLogBegunBy : {M : Type 0} → (M → Meaning) → Describes M → Format → LogArgs → List ℕ →
+    Type 0
+IsLogBegunBy meaning says format.Text args = IsLogBegunAs meaning says args.names args
+IsLogBegunBy meaning says format.Csv args = IsTable format.Csv
+IsLogBegunBy meaning says format.Json args = IsTable format.Json
 
 abbrev pub IsShownBy : {M : Type 0} → (M → Meaning) → Describes M → Format → ShowArgs → List ℕ →
     Type 0
@@ -280,5 +294,6 @@ IsSeen meaning says shows (Check args) text = IsSomeChecked says shows text
 -- and a text of which it prints a beginning if it is refused
 abbrev pub IsSeenSoFar : {M : Type 0} → (M → Meaning) → Describes M → Shows M → Look → List ℕ →
     Type 0
+IsSeenSoFar meaning says shows (Log args) text = IsLogBegunBy meaning says args.format args text
 IsSeenSoFar meaning says shows (Seq args) text = IsBegunBy meaning says args.format text
 IsSeenSoFar meaning says shows look text = IsSeen meaning says shows look text

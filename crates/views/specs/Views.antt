@@ -21,6 +21,7 @@ use Rattle.pictures.specs.Drawing.{drawing_text}
 use Rattle.pictures.specs.Figures.{AreFigures}
 use Rattle.pictures.specs.Load.{load_text}
 use Rattle.pictures.specs.Run.{IsPartBefore, IsRunOf, Run as PastRun}
+use Rattle.pictures.specs.Stepping.{with_log}
 use Rattle.pictures.specs.Tables.{csv_text, stats_text}
 use Rattle.pictures.specs.declared.chosen.Choice.{Choice}
 use Rattle.pictures.specs.declared.counted.Figures.{Figures}
@@ -40,7 +41,7 @@ use Rattle.toml.specs.Data.{Members}
 use Rattle.upkeep.specs.declared.verifying.Verified.{Verified}
 use Rattle.upkeep.specs.declared.verifying.VerifyFault.{VerifyFault}
 use Rattle.upkeep.specs.declared.verifying.VerifyFault.TheVariants as verifying
-use Rattle.views.specs.Beginnings.{IsWorldOf}
+use Rattle.views.specs.Beginnings.{IsWorldOf, IsWorldSoFar}
 use Rattle.views.specs.Tables.{IsTable}
 use Rattle.views.specs.declared.fault.ViewFault.{ViewFault}
 use Rattle.views.specs.declared.fault.ViewFault.TheVariants.{BadModel, BadTrace, NoMemory}
@@ -158,6 +159,18 @@ pub record IsCommitted {M : Type 0} (meaning : M → Meaning) (says : Describes 
   pub of_disk : IsWorldOf (meaning model) end image world
   pub is : text ≡ shown world
 
+-- The text of the world to which the first records of the image of a disk are replayed.
+pub record IsCommittedSoFar {M : Type 0} (meaning : M → Meaning) (says : Describes M)
+    (shown : World → List ℕ) (text : List ℕ) : Type 0 where
+  pub source : List ℕ
+  pub model : M
+  pub end : ℕ
+  pub image : List (List ℕ)
+  pub world : World
+  pub file : IsModelFile says source model end
+  pub of_disk : IsWorldSoFar (meaning model) end image world
+  pub is : text ≡ shown world
+
 -- the world to which the image of some disk is replayed, of the model of some file
 pub record IsWorldOn {M : Type 0} (meaning : M → Meaning) (says : Describes M) (model : M)
     (world : World) : Type 0 where
@@ -166,6 +179,11 @@ pub record IsWorldOn {M : Type 0} (meaning : M → Meaning) (says : Describes M)
   pub image : List (List ℕ)
   pub file : IsModelFile says source model end
   pub of_disk : IsWorldOf (meaning model) end image world
+
+-- the same of these parts of a world, of which the log is not known
+abbrev pub HasWorldOn : {M : Type 0} → (M → Meaning) → Describes M → M → WorldParts → Type 0
+HasWorldOn meaning says model parts =
+    (log : List Message) × IsWorldOn meaning says model (with_log log (world_in parts))
 
 -- which events are asked for: from a time on, before a time, and of one process
 abbrev pub choice_of : Option ℕ → Option ℕ → Option ℕ → Choice
@@ -181,6 +199,13 @@ abbrev pub IsLogged : {M : Type 0} → (M → Meaning) → Describes M → Optio
     → List ℕ → Type 0
 IsLogged meaning says from to process =
     IsCommitted meaning says (λ w. log_text (log_part from to process w.log))
+
+-- the same of the events of the first records, of which `log` prints a beginning if it is refused: it
+-- prints those of each record before it reads the next one
+abbrev pub IsLoggedSoFar : {M : Type 0} → (M → Meaning) → Describes M → Option ℕ → Option ℕ
+    → Option ℕ → List ℕ → Type 0
+IsLoggedSoFar meaning says from to process =
+    IsCommittedSoFar meaning says (λ w. log_text (log_part from to process w.log))
 
 -- the messages that are not handled, as events of a log are written
 abbrev pub IsPending : {M : Type 0} → (M → Meaning) → Describes M → List ℕ → Type 0

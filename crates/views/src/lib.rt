@@ -4,6 +4,7 @@
 
 mod apart;
 mod beginnings;
+mod believing;
 mod cells;
 mod differing;
 mod drawing;
@@ -14,10 +15,12 @@ mod info;
 mod inspecting;
 mod kept;
 mod levels;
+mod listing;
 mod looking;
 mod looks;
 mod named;
 mod reading;
+mod replaying;
 mod rows;
 mod statistics;
 mod streaming;
