@@ -6,6 +6,7 @@ use Rattle.std.proofs.lemmas.List.{append-nil}
 use Rattle.std.proofs.lemmas.List.Concat.{flat_map-append}
 use Rattle.cli.specs.declared.command.Format.{Format}
 use Rattle.eventkey.specs.Writing.{TakesBeginning, Writes}
+use Rattle.recovery.proofs.Bodies.{and_false}
 use Rattle.views.specs.Tables.{AddsRows, AreUnder, Field, HasRows, IsAfter, IsBoth, IsRows, IsTable, divider, head_text, is_empty, row_table, row_text, rows_text, table_text, tail_text}
 use Rattle.views.specs.Views.{Begins, Prints}
 use Rattle.views.proofs.Printed.{appended_both, begun_after, taken_whole}
@@ -17,10 +18,6 @@ appends_nothing (Some xs) = sym (append-nil xs)
 and_true : (b : Bool) → (b && true) ≡ b
 and_true true = refl
 and_true false = refl
-
-and_false : (b : Bool) → (b && false) ≡ false
-and_false true = refl
-and_false false = refl
 
 -- a beginning of a text is one of a longer text
 begun_more : {old new : Option (List ℕ)} {a : List ℕ} (b : List ℕ) → TakesBeginning old new a → TakesBeginning old new (a ++ b)

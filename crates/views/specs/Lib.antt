@@ -5,4 +5,4 @@ pub mod Beginnings  -- where the simulation on a disk begins
 pub mod Tables  -- tables as they are printed
 -- Inside
 pub mod Streaming  -- the run of a model that is printed as it is made
-pub mod Replaying  -- the replay of a disk that forgets the events of each record
+pub mod Replaying  -- the replay of a disk that forgets the events of some records at once

@@ -225,7 +225,7 @@ abbrev pub IsLoggedAs : {M : Type 0} → (M → Meaning) → Describes M → Boo
 IsLoggedAs meaning says true args = IsUtf8
 IsLoggedAs meaning says false args = IsLogged meaning says args.from args.to args.process
 
--- and of which text a beginning if it is refused
+-- the text of which `log` prints a beginning if it is refused; with the model's names some UTF-8
 abbrev pub IsLogBegunAs : {M : Type 0} → (M → Meaning) → Describes M → Bool → LogArgs → List ℕ →
     Type 0
 IsLogBegunAs meaning says true args = IsUtf8
@@ -249,7 +249,7 @@ IsLoggedBy meaning says format.Text args = IsLoggedAs meaning says args.names ar
 IsLoggedBy meaning says format.Csv args = IsTable format.Csv
 IsLoggedBy meaning says format.Json args = IsTable format.Json
 
--- and of which text `log` prints a beginning if it is refused
+-- the text in a format of which `log` prints a beginning if it is refused
 abbrev pub IsLogBegunBy : {M : Type 0} → (M → Meaning) → Describes M → Format → LogArgs → List ℕ →
     Type 0
 IsLogBegunBy meaning says format.Text args = IsLogBegunAs meaning says args.names args

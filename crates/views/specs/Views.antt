@@ -195,13 +195,14 @@ abbrev pub log_part : Option ℕ → Option ℕ → Option ℕ → List Message 
 log_part from to process log = if is_none from && (is_none to && is_none process) then log
     else filter (is_chosen (choice_of from to process)) log
 
+-- the requested part of the log of the world to which a disk is replayed
 abbrev pub IsLogged : {M : Type 0} → (M → Meaning) → Describes M → Option ℕ → Option ℕ → Option ℕ
     → List ℕ → Type 0
 IsLogged meaning says from to process =
     IsCommitted meaning says (λ w. log_text (log_part from to process w.log))
 
--- the same of the events of the first records, of which `log` prints a beginning if it is refused: it
--- prints those of each record before it reads the next one
+-- The same of the world to which the first records of a disk are replayed. `log` prints the events of
+-- each record before it reads the next one, so it has printed a beginning of this if it is refused.
 abbrev pub IsLoggedSoFar : {M : Type 0} → (M → Meaning) → Describes M → Option ℕ → Option ℕ
     → Option ℕ → List ℕ → Type 0
 IsLoggedSoFar meaning says from to process =

@@ -4,7 +4,6 @@
 
 mod apart;
 mod beginnings;
-mod believing;
 mod cells;
 mod differing;
 mod drawing;
