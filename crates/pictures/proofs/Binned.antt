@@ -5,11 +5,12 @@ use Rattle.std.proofs.Math.Seq.{drop-append_seam}
 use Rattle.std.proofs.lemmas.List.{append-nil, length-append, map-append, take_more}
 use Rattle.std.proofs.lemmas.List.Elements.{filter-append}
 use Rattle.std.specs.Prelude.{drop}
+use Rattle.eventkey.proofs.Lists.{drop_here}
 use Rattle.eventkey.specs.Message.{Message}
 use Rattle.model.specs.Meaning.{Meaning}
 use Rattle.model.specs.Runner.{IsRun, RunsTo, Simulation}
 use Rattle.model.specs.World.{World, opening}
-use Rattle.pictures.proofs.Frames.{filter_fits}
+use Rattle.pictures.proofs.Counts.{length-filter-le}
 use Rattle.pictures.proofs.Passed.{passed_forgotten, passed_more, passed_open, passed_upto, run_logged}
 use Rattle.pictures.specs.Histograms.{HasTallied, IsTallyOfRun, content_at, is_of_sort, values_of}
 use Rattle.pictures.specs.Stepping.{with_log}
@@ -91,7 +92,9 @@ tallied_whole m end to word a b old new events h run e add =
 
 -- a value that is counted is one of them
 pub filter_fits_at : (p : ℕ → Bool) (xs : List ℕ) (i n : ℕ) → i < length xs → p (get_or xs i 0) ≡ true → n + length (filter p (drop i xs)) ≡ length (filter p xs) → n + 1 ≤ length xs
-filter_fits_at p xs i n l selected so_far = filter_fits p xs i n (get_or xs i 0) l (get_or-any xs i 0 (get_or xs i 0) l) selected so_far
+filter_fits_at p xs i n l selected so_far =
+    let h = rw (drop_here xs i (get_or xs i 0) l (get_or-any xs i 0 (get_or xs i 0) l), selected) at so_far in
+    omega (arith, length-filter-le p xs, h)
   where
     get_or-any : (xs : List ℕ) (i d e : ℕ) → i < length xs → get_or xs i d ≡ get_or xs i e
     get_or-any [] i d e l = absurd (omega arith)

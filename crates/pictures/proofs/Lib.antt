@@ -15,3 +15,4 @@ pub mod Spreads  -- values in ascending order, from how often each came
 pub mod OnTheWay  -- when the messages that are on their way were sent
 pub mod Running  -- a simulation that counts its events
 pub mod Cells  -- how many events each cell of a heat map has
+mod Marked  -- the marks of a diagram

@@ -1,6 +1,8 @@
 -- A simulation that counts its events.
 use Rattle.std.specs.List.{AllByRecursion as Every}
 use Rattle.std.specs.Prelude.{None, Ok, Result, nat_le, nat_lt, ◌↔◌}
+use Rattle.std.specs.declared.alloc.Global.{Global}
+use Rattle.std.specs.declared.vec.Vec.{Vec}
 use Rattle.std.specs.List.Sorted.{IsPermutation}
 use Rattle.std.proofs.Common.{◌≡◌, ◌≢◌, ◌==◌, ◌+◌, ◌-◌, ◌<◌, ◌≤◌, ◌^◌, ◌++◌, ◌∷◌, [], ℕ, List, Option, Some, ap, append-nil, append_assoc, arith, drop, eq-eqb, eqb-true, false, filter, get_or, if◌then◌else◌, inl, inr, length, map, min, refl, replicate, set, subst, suc, sym, true, ◌∙◌}
 use Rattle.std.proofs.Math.ListN.{get_or-append}
@@ -258,31 +260,55 @@ delays_go_on r x n pending events d unsent same h = λ later on. h later (goes_o
 
 -- 4. A simulation that counts its events
 
+-- the run at the opening
+abbrev pub opening_run : Meaning → Run
+opening_run m = record { time = 0; first = (opening m).numbers; events = []; sends = []; pending = (opening m).pending }
+
+pub opening_has : (m : Meaning) (bound : ℕ) → HasRun m bound (opening_run m) (opening m)
+opening_has m bound = record {
+  passed = record { steps = 0; reached = refl };
+  first = refl;
+  sends = refl;
+  pending = refl;
+  states = refl;
+  sent = λ lp. sym (ap length (append-nil (replicate (get_or (opening m).numbers lp 0) 0)) ∙ length-replicate (get_or (opening m).numbers lp 0) 0);
+}
+
 pub counted_open : (m : Meaning) (bound end : ℕ) (s : Simulation) (c : Counts) (numbers : List ℕ) → s ≡ record { end = end; world = opening m } → numbers ≡ s.world.numbers
     → ((r : Run) → r.first ≡ numbers → r.events ≡ [] → r.sends ≡ [] → HasCounted r c) → ((r : Run) (x : Message) → r.first ≡ numbers → r.events ≡ [] → HaveTime r c.senders.items x) → IsCounted m bound s.world c 0
 counted_open m bound end s c numbers e numbers_are counted found =
-    let r : Run = record { time = 0; first = (opening m).numbers; events = []; sends = []; pending = (opening m).pending } in
+    let r : Run = opening_run m in
     let first : (opening m).numbers ≡ numbers = sym (numbers_are ∙ ap (λ (t : Simulation). t.world.numbers) e) in
     let there : IsCounted m bound (opening m) c 0 = record {
       run = r;
-      has = record {
-        passed = record { steps = 0; reached = refl };
-        first = refl;
-        sends = refl;
-        pending = refl;
-        states = refl;
-        sent = λ lp. sym (ap length (append-nil (replicate (get_or (opening m).numbers lp 0) 0)) ∙ length-replicate (get_or (opening m).numbers lp 0) 0);
-      };
+      has = opening_has m bound;
       counted = counted r first refl refl;
       pending = Every-all (HaveTime r c.senders.items) (λ x. found r x first refl) (opening m).pending;
       events = refl;
     } in
     subst (λ (t : Simulation). IsCounted m bound t.world c 0) (sym e) there
 
-pub event_addressed : (m : Meaning) (bound : ℕ) (w : World) (c : Counts) (k : ℕ) (x : Message) (rest : List Message) → IsLawful m → bound ≤ 2 ^ 40 → IsCounted m bound w c k → w.pending ≡ x ∷ rest → x.to < m.lps
-event_addressed m bound w c k x rest law short is first =
-    let all : Every (IsAddressed m.lps) (x ∷ rest) = rw first at (run_world m bound is.run w law short is.has).addressed in
+pub event_addressed : (m : Meaning) (bound : ℕ) (r : Run) (w : World) (x : Message) (rest : List Message) → IsLawful m → bound ≤ 2 ^ 40 → HasRun m bound r w → w.pending ≡ x ∷ rest → x.to < m.lps
+event_addressed m bound r w x rest law short has first =
+    let all : Every (IsAddressed m.lps) (x ∷ rest) = rw first at (run_world m bound r w law short has).addressed in
     all.0.to
+
+-- how many messages the receiver of an event has sent after it
+pub sent_after : (m : Meaning) (bound : ℕ) (r : Run) (w v : World) (x : Message) (rest : List Message) (numbers : List ℕ) → IsLawful m → bound ≤ 2 ^ 40 → HasRun m bound r w → w.pending ≡ x ∷ rest → step m bound w ≡ Some v
+    → numbers ≡ v.numbers → get_or numbers x.to 0 ≡ length (sending_times r x.to) + sends_at m w x
+sent_after m bound r w v x rest numbers law short has first e numbers_are =
+    let n : ℕ = sends_at m w x in
+    let s = stepped m bound w v x rest first e in
+    let there = event_addressed m bound r w x rest law short has first in
+    ap (λ ns. get_or ns x.to 0) (numbers_are ∙ ap (λ (u : World). u.numbers) s.0)
+    ∙ get_or-set_same w.numbers x.to (number_of w x.to + n) 0 (omega (arith, (run_world m bound r w law short has).numbers)) ∙ ap (λ j. j + n) (has.sent x.to)
+
+-- there is a number for each process after a step
+pub numbers_after : (m : Meaning) (bound : ℕ) (r : Run) (w v : World) (x : Message) (rest : List Message) (numbers : List ℕ) → IsLawful m → bound ≤ 2 ^ 40 → HasRun m bound r w → w.pending ≡ x ∷ rest → step m bound w ≡ Some v
+    → numbers ≡ v.numbers → length numbers ≡ m.lps
+numbers_after m bound r w v x rest numbers law short has first e numbers_are =
+    let s = stepped m bound w v x rest first e in
+    ap length (numbers_are ∙ ap (λ (u : World). u.numbers) s.0) ∙ length-set w.numbers x.to (number_of w x.to + sends_at m w x) ∙ (run_world m bound r w law short has).numbers
 
 -- the counts have an entry for each process
 pub counted_lps : (m : Meaning) (bound : ℕ) (w : World) (c : Counts) (k : ℕ) → IsLawful m → IsCounted m bound w c k → (length c.senders.items ≡ m.lps) × (length c.handled.items ≡ m.lps)
@@ -298,11 +324,7 @@ pub counted_step : (m : Meaning) (bound : ℕ) (w v : World) (x : Message) (rest
 counted_step m bound w v x rest old new k numbers law short is first e numbers_are add found =
     let r : Run = is.run in
     let n : ℕ = sends_at m w x in
-    let s = stepped m bound w v x rest first e in
-    let world = run_world m bound r w law short is.has in
-    let there = event_addressed m bound w old k x rest law short is first in
-    let count : get_or numbers x.to 0 ≡ length (sending_times r x.to) + n =
-    ap (λ ns. get_or ns x.to 0) (numbers_are ∙ ap (λ (u : World). u.numbers) s.0) ∙ get_or-set_same w.numbers x.to (number_of w x.to + n) 0 (omega (arith, world.numbers)) ∙ ap (λ j. j + n) (is.has.sent x.to) in
+    let count : get_or numbers x.to 0 ≡ length (sending_times r x.to) + n = sent_after m bound r w v x rest numbers law short is.has first e numbers_are in
     let all : Every (HaveTime r old.senders.items) (x ∷ rest) = subst (Every (HaveTime r old.senders.items)) first is.pending in
     let next : Run = with_event r x n v.pending in
     record {
@@ -315,15 +337,31 @@ counted_step m bound w v x rest old new k numbers law short is first e numbers_a
     }
 
 -- the world may forget its log
-pub counted_forgotten : (m : Meaning) (bound end : ℕ) (w : World) (s : Simulation) (old new : Counts) (k : ℕ) → IsCounted m bound w old k → s ≡ record { end = end; world = with_log [] w }
-    → ((r : Run) → HasCounted r old → Every (HaveTime r old.senders.items) w.pending → HasCounted r new)
-    → ((r : Run) → HasCounted r old → Every (HaveTime r old.senders.items) w.pending → Every (HaveTime r new.senders.items) w.pending) → IsCounted m bound s.world new k
-counted_forgotten m bound end w s old new k is e counted pending =
+pub run_forgotten : (m : Meaning) (bound : ℕ) (r : Run) (w : World) → HasRun m bound r w → HasRun m bound r (with_log [] w)
+run_forgotten m bound r w has = record { passed = has.passed; first = has.first; sends = has.sends; pending = has.pending; states = has.states; sent = has.sent }
+
+-- the same of what is counted
+pub counted_forgotten : (m : Meaning) (bound end : ℕ) (w : World) (s : Simulation) (old : Counts) (short : Vec Sender Global) (k : ℕ) → IsCounted m bound w old k → s ≡ record { end = end; world = with_log [] w }
+    → ((r : Run) → AreSenders r old.senders.items → Every (HaveTime r old.senders.items) w.pending → Every (HaveTime r old.senders.items) old.unsent.items → AreSenders r short.items)
+    → ((r : Run) → AreSenders r old.senders.items → Every (HaveTime r old.senders.items) w.pending → Every (HaveTime r old.senders.items) old.unsent.items → Every (HaveTime r short.items) w.pending)
+    → ((r : Run) → AreSenders r old.senders.items → Every (HaveTime r old.senders.items) w.pending → Every (HaveTime r old.senders.items) old.unsent.items → Every (HaveTime r short.items) old.unsent.items)
+    → IsCounted m bound s.world (record old { senders = short }) k
+counted_forgotten m bound end w s old short k is e senders pending unsent =
+    let r : Run = is.run in
+    let was = is.counted in
+    let new : Counts = record old { senders = short } in
     let there : IsCounted m bound (with_log [] w) new k = record {
-      run = is.run;
-      has = record { passed = is.has.passed; first = is.has.first; sends = is.has.sends; pending = is.has.pending; states = is.has.states; sent = is.has.sent };
-      counted = counted is.run is.counted is.pending;
-      pending = pending is.run is.counted is.pending;
+      run = r;
+      has = run_forgotten m bound r w is.has;
+      counted = record {
+        sends = was.sends;
+        senders = senders r was.senders is.pending was.unsent;
+        long = was.long;
+        handled = was.handled;
+        delays = was.delays;
+        unsent = unsent r was.senders is.pending was.unsent;
+      };
+      pending = pending r was.senders is.pending was.unsent;
       events = is.events;
     } in
     subst (λ (t : Simulation). IsCounted m bound t.world new k) (sym e) there
@@ -336,11 +374,9 @@ due_first bound xs x rest first early = subst (λ ys. is_due bound ys ≡ true) 
 pub event_fits : (m : Meaning) (bound : ℕ) (w v : World) (c : Counts) (k : ℕ) (x : Message) (rest : List Message) (numbers : List ℕ) → IsLawful m → bound ≤ 2 ^ 40 → IsCounted m bound w c k → w.pending ≡ x ∷ rest → step m bound w ≡ Some v
     → numbers ≡ v.numbers → (x.to < length numbers) × (x.to < length c.senders.items) × (x.to < length c.handled.items)
 event_fits m bound w v c k x rest numbers law short is first e numbers_are =
-    let there = event_addressed m bound w c k x rest law short is first in
+    let there = event_addressed m bound is.run w x rest law short is.has first in
     let lps = counted_lps m bound w c k law is in
-    let s = stepped m bound w v x rest first e in
-    let long : length numbers ≡ m.lps =
-    ap length (numbers_are ∙ ap (λ (u : World). u.numbers) s.0) ∙ length-set w.numbers x.to (number_of w x.to + sends_at m w x) ∙ (run_world m bound is.run w law short is.has).numbers in
+    let long = numbers_after m bound is.run w v x rest numbers law short is.has first e numbers_are in
     (omega (arith, long), omega (arith, lps.0), omega (arith, lps.1))
 
 -- steps up to a time, when no event before it is left, are the simulation up to there
@@ -364,23 +400,32 @@ run_of_events m end to events w h idle =
     let r : Run = record { time = bound; first = (opening m).numbers; events = events; sends = sends_of m (opening m).states events; pending = w.pending } in
     (r, record { world = at_time bound (with_log events w); upto = passed_all m end bound events w (omega arith) h idle; time = refl; events = refl; pending = refl; first = refl; sends = refl }, refl)
 
--- the run that was counted, when no event is left
+-- the run of a simulation, when no event is left
+abbrev pub whole_run : ℕ → Run → World → Run
+whole_run time r w = record { time = time; first = r.first; events = r.events; sends = r.sends; pending = w.pending }
+
+pub run_ended : (m : Meaning) (end to : ℕ) (r : Run) (w : World) → HasRun m (min to end) r w → IsIdle (min to end) w → IsRunOf m end to (whole_run (min to end) r w)
+run_ended m end to r w has idle =
+    let bound : ℕ = min to end in
+    record { world = at_time bound (with_log r.events w); upto = passed_all m end bound r.events w (omega arith) has.passed idle; time = refl; events = refl; pending = refl; first = has.first; sends = has.sends }
+
+pub senders_whole : (time : ℕ) (r : Run) (w : World) (senders : List Sender) → AreSenders r senders → AreSenders (whole_run time r w) senders
+senders_whole time r w senders are = record { long = are.long; each = are.each; others = are.others }
+
+-- the run that was counted
 pub counted_run : (m : Meaning) (end to : ℕ) (w : World) (c : Counts) (k : ℕ) → IsCounted m (min to end) w c k → IsIdle (min to end) w
     → (r : Run) × IsRunOf m end to r × (r.time ≡ min to end) × (k ≡ length r.events) × (r.pending ≡ w.pending) × HasCounted r c × Every (HaveTime r c.senders.items) w.pending
     × ((lp : ℕ) → get_or w.numbers lp 0 ≡ length (sending_times r lp))
-counted_run m end to w c k is idle =
-    let bound : ℕ = min to end in
-    let was : Run = is.run in
-    let r : Run = record { time = bound; first = was.first; events = was.events; sends = was.sends; pending = w.pending } in (
-      r,
-      record { world = at_time bound (with_log was.events w); upto = passed_all m end bound was.events w (omega arith) is.has.passed idle; time = refl; events = refl; pending = refl; first = is.has.first; sends = is.has.sends },
-      refl,
-      is.events,
-      refl,
-      record { sends = is.counted.sends; senders = record { long = is.counted.senders.long; each = is.counted.senders.each; others = is.counted.senders.others }; long = is.counted.long; handled = is.counted.handled; delays = is.counted.delays; unsent = is.counted.unsent },
-      is.pending,
-      is.has.sent,
-    )
+counted_run m end to w c k is idle = (
+  whole_run (min to end) is.run w,
+  run_ended m end to is.run w is.has idle,
+  refl,
+  is.events,
+  refl,
+  record { sends = is.counted.sends; senders = senders_whole (min to end) is.run w c.senders.items is.counted.senders; long = is.counted.long; handled = is.counted.handled; delays = is.counted.delays; unsent = is.counted.unsent },
+  is.pending,
+  is.has.sent,
+)
 
 -- 5. The delays of all messages
 

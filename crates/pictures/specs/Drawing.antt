@@ -2,17 +2,27 @@
 -- event, and a line for each message from its sending to its receiving. Coordinates are whole
 -- pixels. Under the diagram a legend names the marks.
 use Rattle.std.specs.List.{filter}
-use Rattle.std.specs.Prelude.{ℕ, ◌+◌, ◌-◌, ◌*◌, ◌/◌, ◌^◌, ◌&&◌, Bool, List, [], ◌∷◌, ◌++◌, drop}
-use Rattle.std.specs.Prelude.{Option, Some, None, flat_map, if◌then◌else◌, length, max, min}
-use Rattle.std.specs.Prelude.{nat_le, nat_lt, take, unwrap_or}
+use Rattle.std.specs.Prelude.{ℕ, ◌≡◌, ◌+◌, ◌-◌, ◌*◌, ◌/◌, ◌^◌, ◌&&◌, Bool, List, [], ◌∷◌, ◌++◌}
+use Rattle.std.specs.Prelude.{Option, Some, None, drop, flat_map, if◌then◌else◌, length, map, max}
+use Rattle.std.specs.Prelude.{min, nat_le, nat_lt, take, unwrap_or}
 use Rattle.eventkey.specs.Message.{Message}
 use Rattle.model.specs.World.{below}
 use Rattle.pictures.specs.Filled.{filled}
 use Rattle.pictures.specs.Run.{Run, sent_at}
+use Rattle.pictures.specs.declared.diagrams.Diagram.{Diagram}
+use Rattle.pictures.specs.declared.diagrams.Marks.{Marks}
+use Rattle.pictures.specs.declared.diagrams.Sending.{Sending}
 use Rattle.pictures.specs.declared.drawn.Frame.{Frame}
 use Rattle.pictures.specs.declared.drawn.View.{View}
 use Rattle.pictures.specs.declared.drawn.TheConstants.{AXES, DOT, HEAD, LEGEND, LINE, NOTE}
 use Rattle.pictures.specs.declared.drawn.TheConstants.{PENDING, ROW, RULE, STEPS, STYLE, TAIL, TICK}
+
+-- a message of a run, with the time at which it was sent
+abbrev pub sending : Run → Message → Sending
+sending r x = record { message = x; sent = sent_at r x }
+
+abbrev pub sendings : Run → List Message → List Sending
+sendings r xs = map (sending r) xs
 
 -- the part of a run that a view has: a range of ticks, in a view without an end up to the tick that
 -- the run reached, and at most 64 processes from the first one of the view on
@@ -43,32 +53,41 @@ abbrev pub bottom_of : Frame → ℕ
 bottom_of f = 60 + 20 * f.rows
 
 -- a message that is received in the frame before this time, and sent before the frame's end
-abbrev pub is_shown : Run → Frame → ℕ → Message → Bool
-is_shown r f before x =
-    nat_le f.from x.time && (nat_lt x.time before && (nat_lt (sent_at r x) f.to
-    && (nat_le f.first x.to && nat_lt (x.to - f.first) f.rows)))
+abbrev pub is_shown : Frame → ℕ → Sending → Bool
+is_shown f before s =
+    nat_le f.from s.message.time && (nat_lt s.message.time before && (nat_lt s.sent f.to
+    && (nat_le f.first s.message.to && nat_lt (s.message.to - f.first) f.rows)))
+
+-- the first 2,000 messages that are shown
+abbrev pub first_shown : Frame → ℕ → List Sending → List Sending
+first_shown f before xs = take 2000 (filter (is_shown f before) xs)
 
 -- the time after the last one of these events, or `end` if there are none
-abbrev pub last_end : ℕ → List Message → ℕ
+abbrev pub last_end : ℕ → List Sending → ℕ
 last_end end [] = end
-last_end end (x ∷ xs) = last_end (x.time + 1) xs
+last_end end (s ∷ ss) = last_end (s.message.time + 1) ss
 
--- where the picture of a frame ends: if the view has no end, with the last event that is drawn
-abbrev pub drawn_end : Run → Frame → Option ℕ → ℕ
-drawn_end r f (Some to) = f.to
-drawn_end r f None = last_end f.to (take 2000 (filter (is_shown r f f.to) r.events))
+-- where the picture of a frame ends that draws these events: if the view has no end, with the last
+abbrev pub drawn_end : Frame → Option ℕ → List Sending → ℕ
+drawn_end f (Some to) events = f.to
+drawn_end f None events = last_end f.to events
+
+-- the part of a run that the picture of a view has
+abbrev pub drawn_frame : Run → View → Frame
+drawn_frame r v =
+    let f = frame_of r v in
+    record f { to = drawn_end f v.to (first_shown f f.to (sendings r r.events)) }
 
 -- the numbers of a mark: the coordinates of sending and receiving, then the message itself
-abbrev pub mark_numbers : Run → Frame → Message → List ℕ
-mark_numbers r f x =
-    x_of f (sent_at r x) ∷ y_of f x.from ∷ x_of f x.time ∷ y_of f x.to
-    ∷ sent_at r x ∷ x.time ∷ x.from ∷ x.number ∷ x.to ∷ x.a ∷ x.b ∷ x.c ∷ x.d ∷ []
+abbrev pub mark_numbers : Frame → Sending → List ℕ
+mark_numbers f s =
+    let x = s.message in
+    x_of f s.sent ∷ y_of f x.from ∷ x_of f x.time ∷ y_of f x.to
+    ∷ s.sent ∷ x.time ∷ x.from ∷ x.number ∷ x.to ∷ x.a ∷ x.b ∷ x.c ∷ x.d ∷ []
 
--- the marks of the first 2,000 messages that are shown, without the first `skip` numbers
-abbrev pub marks_text : Run → Frame → List ℕ → ℕ → ℕ → List Message → List ℕ
-marks_text r f text skip before xs =
-    flat_map (λ x. filled text (drop skip (mark_numbers r f x)))
-    (take 2000 (filter (is_shown r f before) xs))
+-- the marks of messages, without the first `skip` numbers
+abbrev pub marks_text : Frame → List ℕ → ℕ → List Sending → List ℕ
+marks_text f text skip ss = flat_map (λ s. filled text (drop skip (mark_numbers f s))) ss
 
 -- the least of these ascending steps of which ten cover the span, or 10^12
 unfoldable pub step_from : ℕ → List ℕ → ℕ
@@ -110,37 +129,56 @@ abbrev pub grid_text : Frame → List ℕ
 grid_text f = ticks_text f ++ rows_text f ++ axes_text f
 
 -- a line at the virtual time up to which the run went, if it is in the frame
-abbrev pub rule_text : Run → Frame → List ℕ
-rule_text r f =
-    if nat_le f.from r.time && nat_le r.time f.to then filled RULE.now
-    (x_of f r.time ∷ x_of f r.time ∷ bottom_of f ∷ r.time ∷ []) else []
+abbrev pub rule_text : ℕ → Frame → List ℕ
+rule_text time f =
+    if nat_le f.from time && nat_le time f.to then filled RULE.now
+    (x_of f time ∷ x_of f time ∷ bottom_of f ∷ time ∷ []) else []
 
--- how many events the frame shows
+-- how many events the frame of a view shows
 abbrev pub shown_count : Run → Frame → ℕ
-shown_count r f = length (filter (is_shown r f f.to) r.events)
+shown_count r f = length (filter (is_shown f f.to) (sendings r r.events))
 
--- how many of the view's events are drawn, and which processes
-abbrev pub note_text : Run → Frame → ℕ → List ℕ
-note_text r f count = filled NOTE.now
-    (min 2000 count ∷ count ∷ f.first ∷ (f.first + f.rows - 1) ∷ length r.first ∷ [])
+-- how many of the view's events are drawn, and which of the processes
+abbrev pub note_text : ℕ → Frame → ℕ → List ℕ
+note_text processes f count = filled NOTE.now
+    (min 2000 count ∷ count ∷ f.first ∷ (f.first + f.rows - 1) ∷ processes ∷ [])
 
 -- what each mark means, and the virtual time up to which the run went
-abbrev pub legend_text : Run → Frame → List ℕ
-legend_text r f = filled LEGEND.now ((bottom_of f + 34) ∷ r.time ∷ [])
+abbrev pub legend_text : ℕ → Frame → List ℕ
+legend_text time f = filled LEGEND.now ((bottom_of f + 34) ∷ time ∷ [])
 
 abbrev pub head_text : Frame → List ℕ
 head_text f = filled HEAD.now ((bottom_of f + 40) ∷ (bottom_of f + 40) ∷ f.from ∷ f.to ∷ [])
 
--- the picture of a frame, where the view has `count` events
-abbrev pub picture_text : Run → Frame → ℕ → List ℕ
-picture_text r f count =
+-- the picture of a frame, where the view has `count` events, of which these are drawn
+abbrev pub picture_text : ℕ → ℕ → ℕ → Frame → List Sending → List Sending → List ℕ
+picture_text time processes count f events pending =
     head_text f ++ STYLE.now ++ grid_text f
-    ++ marks_text r f PENDING.now 0 (2 ^ 64 - 1) r.pending
-    ++ marks_text r f LINE.now 0 f.to r.events
-    ++ marks_text r f DOT.now 2 f.to r.events
-    ++ rule_text r f ++ note_text r f count ++ legend_text r f ++ TAIL.now
+    ++ marks_text f PENDING.now 0 pending
+    ++ marks_text f LINE.now 0 events
+    ++ marks_text f DOT.now 2 events
+    ++ rule_text time f ++ note_text processes f count ++ legend_text time f ++ TAIL.now
 
 abbrev pub drawing_text : Run → View → List ℕ
 drawing_text r v =
-    let f = frame_of r v in
-    picture_text r (record f { to = drawn_end r f v.to }) (shown_count r f)
+    let f = drawn_frame r v in
+    picture_text r.time (length r.first) (shown_count r (frame_of r v)) f
+    (first_shown f f.to (sendings r r.events))
+    (first_shown f (2 ^ 64 - 1) (sendings r r.pending))
+
+-- what is kept of these messages: how many a frame shows, and the first of them
+pub record AreMarks (f : Frame) (before : ℕ) (xs : List Sending) (m : Marks) : Type 0 where
+  pub count : m.count ≡ length (filter (is_shown f before) xs)
+  pub first : m.first.items ≡ first_shown f before xs
+
+-- what is kept of a run for its picture in a view
+pub record IsDiagram (r : Run) (v : View) (d : Diagram) : Type 0 where
+  pub time : d.time ≡ r.time
+  pub processes : d.processes ≡ length r.first
+  pub view : d.view ≡ v
+  pub count : d.count ≡ shown_count r (frame_of r v)
+  pub to : d.to ≡ (drawn_frame r v).to
+  pub events : d.events.items
+      ≡ first_shown (drawn_frame r v) (drawn_frame r v).to (sendings r r.events)
+  pub pending : d.pending.items
+      ≡ first_shown (drawn_frame r v) (2 ^ 64 - 1) (sendings r r.pending)

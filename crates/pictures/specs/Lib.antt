@@ -17,5 +17,6 @@ pub mod Filled  -- texts with placeholders for numbers
 pub mod Senders  -- when the messages that are on their way were sent
 pub mod Delays  -- how often each value came
 pub mod Counting  -- what was counted of a run so far
+pub mod Marking  -- what a diagram shows of a run so far
 pub mod Inside  -- the value of a trace that contracts see
 pub mod Watching  -- a look at a process after an event

@@ -1,23 +1,20 @@
 // The space-time diagram of a run.
 
-ghost use Rattle.std.specs.List.{filter};
 ghost use Rattle.std.specs.Prelude.{◌≡◌, ◌≤◌, ◌<◌, ◌+◌, ◌-◌, ◌*◌, ◌^◌, ◌++◌, drop, flat_map};
-ghost use Rattle.std.specs.Prelude.{length, take};
+ghost use Rattle.std.specs.Prelude.{length};
 ghost use Rattle.eventkey.specs.Writing.{Writes};
 ghost use Rattle.model.specs.World.{below};
-ghost use Rattle.pictures.specs.Drawing.{axes_text, bottom_of, drawing_text, drawn_end, first_tick};
-ghost use Rattle.pictures.specs.Drawing.{frame_of, grid_text, head_text};
-ghost use Rattle.pictures.specs.Drawing.{is_shown, last_end, legend_text, mark_numbers, marks_text};
-ghost use Rattle.pictures.specs.Drawing.{note_text, picture_text};
-ghost use Rattle.pictures.specs.Drawing.{row_text, rows_text, rule_text, shown_count, span_of};
-ghost use Rattle.pictures.specs.Drawing.{step_from};
+ghost use Rattle.pictures.specs.Drawing.{IsDiagram, axes_text, bottom_of, drawing_text, first_tick};
+ghost use Rattle.pictures.specs.Drawing.{frame_of, grid_text, head_text, legend_text};
+ghost use Rattle.pictures.specs.Drawing.{mark_numbers, marks_text, note_text, picture_text};
+ghost use Rattle.pictures.specs.Drawing.{row_text, rows_text, rule_text, span_of, step_from};
 ghost use Rattle.pictures.specs.Drawing.{step_of, tick_count, tick_text, ticks_text, x_of, y_of};
 ghost use Rattle.pictures.specs.Filled.{filled as filled_with};
 ghost use Rattle.pictures.specs.Run.{Run};
+ghost use Rattle.pictures.specs.declared.drawn.View.{View};
 
-use crate::Trace;
+use crate::diagrams::{Diagram, Sending};
 use crate::filled::write_filled;
-use eventkey::Message;
 use std::io::{Result, Write};
 use texts::write_text;
 
@@ -159,18 +156,17 @@ pub(crate) const TAIL: &str = "</svg>\n";
 /// as 2^41. The axes have titles, and a legend names the marks and the run's time.
 ///
 /// If the writer fails, its error is returned, and it has taken a beginning of the text. The time
-/// is in proportion to the run's messages, and nothing is allocated.
-pub fn write_drawing<W: Write>(trace: &Trace, view: &View, out: &mut W) -> Result<()>
-    ensures { Writes (W.contents out.old) (W.contents out.new) result
-        (drawing_text trace.now view.now) }
+/// does not depend on the number of events, and nothing is allocated.
+pub fn write_drawing<W: Write>(diagram: &Diagram, out: &mut W) -> Result<()>
+    ensures { (r : Run) (v : View) → IsDiagram r v diagram.now →
+        Writes (W.contents out.old) (W.contents out.new) result (drawing_text r v) }
 {
-    let frame = framed(trace.time(), trace.first().len() as u64, view);
-    let count = count_shown(trace, &frame);
+    let frame = framed(diagram.time, u64::from(diagram.processes), &diagram.view);
     let drawn = Frame {
-        to: drawn_end(trace, &frame, view.to),
+        to: diagram.to.min(frame.to).max(frame.from),
         ..frame
     };
-    write_picture(trace, &drawn, count, out)
+    write_picture(diagram, &drawn, out)
 }
 
 /// Returns the frame of a view in a run up to `time` ticks of a model with this number of processes.
@@ -193,57 +189,24 @@ pub(crate) fn framed(time: u64, processes: u64, view: &View) -> Frame
     }
 }
 
-/// Returns where the picture of a frame ends: with the frame if its view has an end, and otherwise
-/// with the last event that is drawn.
-fn drawn_end(trace: &Trace, frame: &Frame, to: Option<u64>) -> u64
-    requires order { frame.now.from ≤ frame.now.to }
-    ensures end { result ≡ drawn_end trace.now frame.now to }
-    ensures order { frame.now.from ≤ result }
-    ensures within { result ≤ frame.now.to }
-{
-    match to {
-        Some(_) => frame.to,
-        None => end_of_last(trace, frame),
-    }
-}
-
-/// Returns the time after the last of the first 2,000 events that the frame shows, or the frame's
-/// end if it shows none.
-fn end_of_last(trace: &Trace, frame: &Frame) -> u64
-    requires order { frame.now.from ≤ frame.now.to }
-    ensures end { result ≡ last_end frame.now.to (take 2000
-        (filter (is_shown trace.now frame.now frame.now.to) trace.now.events)) }
-    ensures order { frame.now.from ≤ result }
-    ensures within { result ≤ frame.now.to }
-{
-    let mut end = frame.to;
-    let mut left = 2000usize;
-    for event in trace.events() {
-        if left > 0 && has_marks(trace, frame, frame.to, event) {
-            end = event.time() + 1;
-            left -= 1;
-        }
-    }
-    end
-}
-
-fn write_picture<W: Write>(trace: &Trace, frame: &Frame, count: u64, out: &mut W) -> Result<()>
+fn write_picture<W: Write>(diagram: &Diagram, frame: &Frame, out: &mut W) -> Result<()>
     requires order { frame.now.from ≤ frame.now.to }
     requires to { frame.now.to ≤ 2 ^ 41 }
     requires rows { frame.now.rows ≤ 64 }
     requires first { frame.now.first < 2 ^ 32 }
     ensures { Writes (W.contents out.old) (W.contents out.new) result
-        (picture_text trace.now frame.now count) }
+        (picture_text diagram.now.time diagram.now.processes diagram.now.count frame.now
+        diagram.now.events.items diagram.now.pending.items) }
 {
     write_head(frame, out)?;
     write_text(STYLE, out)?;
     write_grid(frame, out)?;
-    write_marks(trace, frame, PENDING, 0, u64::MAX, trace.pending(), out)?;
-    write_marks(trace, frame, LINE, 0, frame.to, trace.events(), out)?;
-    write_marks(trace, frame, DOT, 2, frame.to, trace.events(), out)?;
-    write_rule(trace, frame, out)?;
-    write_note(trace, frame, count, out)?;
-    write_legend(trace, frame, out)?;
+    write_marks(frame, PENDING, 0, diagram.pending.as_slice(), out)?;
+    write_marks(frame, LINE, 0, diagram.events.as_slice(), out)?;
+    write_marks(frame, DOT, 2, diagram.events.as_slice(), out)?;
+    write_rule(diagram.time, frame, out)?;
+    write_note(diagram.processes, frame, diagram.count, out)?;
+    write_legend(diagram.time, frame, out)?;
     write_text(TAIL, out)
 }
 
@@ -379,61 +342,42 @@ fn write_axes<W: Write>(frame: &Frame, out: &mut W) -> Result<()>
     write_filled(AXES, &[bottom(frame) + 34, middle], out)
 }
 
-/// Returns whether a message is drawn: it is received in the frame before the time `before`, and
-/// sent before the frame's end.
-fn has_marks(trace: &Trace, frame: &Frame, before: u64, message: &Message) -> bool
-    ensures { result ≡ is_shown trace.now frame.now before message.now }
-{
-    let time = message.time();
-    let to = message.to();
-    if time < frame.from || time >= before || trace.sent_at(message) >= frame.to {
-        return false;
-    }
-    to >= frame.first && to - frame.first < frame.rows
-}
-
-/// Writes a mark for each of the first 2,000 messages that are drawn. The mark's text gets all
-/// numbers of a message but the first `skip`.
+/// Writes a mark for each of these messages. The mark's text gets all numbers of a message but the
+/// first `skip`.
 fn write_marks<W: Write>(
-    trace: &Trace,
     frame: &Frame,
     text: &str,
     skip: usize,
-    before: u64,
-    messages: &[Message],
+    sendings: &[Sending],
     out: &mut W,
 ) -> Result<()>
     requires to { frame.now.to ≤ 2 ^ 41 }
     requires rows { frame.now.rows ≤ 64 }
     requires skip { skip ≤ 13 }
     ensures { Writes (W.contents out.old) (W.contents out.new) result
-        (marks_text trace.now frame.now text.now skip before messages.now) }
+        (marks_text frame.now text.now skip sendings.now) }
 {
-    let mut left = 2000usize;
-    for message in messages {
-        if left > 0 && has_marks(trace, frame, before, message) {
-            write_mark(trace, frame, text, skip, message, out)?;
-            left -= 1;
-        }
+    for sending in sendings {
+        write_mark(frame, text, skip, sending, out)?;
     }
     Ok(())
 }
 
 fn write_mark<W: Write>(
-    trace: &Trace,
     frame: &Frame,
     text: &str,
     skip: usize,
-    message: &Message,
+    sending: &Sending,
     out: &mut W,
 ) -> Result<()>
     requires to { frame.now.to ≤ 2 ^ 41 }
     requires rows { frame.now.rows ≤ 64 }
     requires skip { skip ≤ 13 }
     ensures { Writes (W.contents out.old) (W.contents out.new) result
-        (filled_with text.now (drop skip (mark_numbers trace.now frame.now message.now))) }
+        (filled_with text.now (drop skip (mark_numbers frame.now sending.now))) }
 {
-    let sent = trace.sent_at(message);
+    let sent = sending.sent;
+    let message = &sending.message;
     let numbers = [
         x_at(frame, sent),
         y_at(frame, message.from()),
@@ -452,13 +396,11 @@ fn write_mark<W: Write>(
     write_filled(text, numbers.split_at(skip).1, out)
 }
 
-fn write_rule<W: Write>(trace: &Trace, frame: &Frame, out: &mut W) -> Result<()>
+fn write_rule<W: Write>(time: u64, frame: &Frame, out: &mut W) -> Result<()>
     requires to { frame.now.to ≤ 2 ^ 41 }
     requires rows { frame.now.rows ≤ 64 }
-    ensures { Writes (W.contents out.old) (W.contents out.new) result
-        (rule_text trace.now frame.now) }
+    ensures { Writes (W.contents out.old) (W.contents out.new) result (rule_text time frame.now) }
 {
-    let time = trace.time();
     if time < frame.from || time > frame.to {
         return write_text("", out);
     }
@@ -467,11 +409,11 @@ fn write_rule<W: Write>(trace: &Trace, frame: &Frame, out: &mut W) -> Result<()>
 }
 
 /// Writes how much is drawn, where the view has `count` events.
-fn write_note<W: Write>(trace: &Trace, frame: &Frame, count: u64, out: &mut W) -> Result<()>
+fn write_note<W: Write>(processes: u32, frame: &Frame, count: u64, out: &mut W) -> Result<()>
     requires rows { frame.now.rows ≤ 64 }
     requires first { frame.now.first < 2 ^ 32 }
     ensures { Writes (W.contents out.old) (W.contents out.new) result
-        (note_text trace.now frame.now count) }
+        (note_text processes frame.now count) }
 {
     let first = u64::from(frame.first);
     let numbers = [
@@ -479,28 +421,15 @@ fn write_note<W: Write>(trace: &Trace, frame: &Frame, count: u64, out: &mut W) -
         count,
         first,
         (first + u64::from(frame.rows)).saturating_sub(1),
-        trace.first().len() as u64,
+        u64::from(processes),
     ];
     write_filled(NOTE, &numbers, out)
 }
 
-fn write_legend<W: Write>(trace: &Trace, frame: &Frame, out: &mut W) -> Result<()>
+fn write_legend<W: Write>(time: u64, frame: &Frame, out: &mut W) -> Result<()>
     requires rows { frame.now.rows ≤ 64 }
     ensures { Writes (W.contents out.old) (W.contents out.new) result
-        (legend_text trace.now frame.now) }
+        (legend_text time frame.now) }
 {
-    write_filled(LEGEND, &[bottom(frame) + 34, trace.time()], out)
-}
-
-/// Returns how many events the frame shows.
-fn count_shown(trace: &Trace, frame: &Frame) -> u64
-    ensures { result ≡ shown_count trace.now frame.now }
-{
-    let mut count = 0u64;
-    for event in trace.events() {
-        if has_marks(trace, frame, frame.to, event) {
-            count += 1;
-        }
-    }
-    count
+    write_filled(LEGEND, &[bottom(frame) + 34, time], out)
 }

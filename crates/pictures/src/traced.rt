@@ -7,7 +7,7 @@ ghost use Rattle.model.specs.Meaning.{IsAddressed, IsWords};
 ghost use Rattle.model.specs.declared.WorldFault.TheVariants.{NumberLimit};
 ghost use Rattle.pictures.specs.Inside.{IsWholeRun, lists};
 ghost use Rattle.pictures.specs.Run.{IsOverLimit, IsPartBefore, IsRunOf, is_from, left_at};
-ghost use Rattle.pictures.specs.Run.{sending_times, sends_of as sends_from, sent_at, sent_in};
+ghost use Rattle.pictures.specs.Run.{sends_of as sends_from, sent_at, sent_in};
 
 use crate::senders::add_times;
 use eventkey::Message;
@@ -73,13 +73,6 @@ impl Trace {
         self.events.as_slice()
     }
 
-    /// Returns how many messages the handling of each event sent.
-    pub fn sends(&self) -> &[u64]
-        ensures { result.now ≡ self.now.sends }
-    {
-        self.sends.as_slice()
-    }
-
     /// Returns the messages that were not handled, the least first.
     pub fn pending(&self) -> &[Message]
         ensures { result.now ≡ self.now.pending }
@@ -96,16 +89,6 @@ impl Trace {
             return 0;
         };
         times.get(message.number() as usize).copied().unwrap_or(0)
-    }
-
-    /// Returns how many messages a process sent.
-    pub fn sent_by(&self, process: u32) -> usize
-        ensures { result ≡ length (sending_times self.now process) }
-    {
-        let Some(times) = self.times.get(process as usize) else {
-            return 0;
-        };
-        times.len()
     }
 
     /// Returns the trace with another time in ticks, and without the pending messages before that.

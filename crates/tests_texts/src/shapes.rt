@@ -1,7 +1,8 @@
 // Each drawing is well formed. What drawings show is in the scripts `pictures` and `course`.
 
+use model::Model;
 use models::{Phold, TokenRing};
-use pictures::{Trace, View, load_of, trace_of, write_drawing, write_load};
+use pictures::{View, diagram_of, load_of, write_drawing, write_load};
 use std::alloc::{AllocError, Global};
 use std::test::Fail;
 
@@ -59,10 +60,11 @@ const VIEWS: [(u64, u64, u32, u32); 11] = [
     (7, 0, 5, 80),
 ];
 
-/// Whether the drawing of a view is well formed.
-fn is_drawn(alloc: Global, trace: &Trace, view: &View) -> Result<bool, Fail> {
+/// Whether the drawing of a view of a model's run up to `to` ticks is well formed.
+fn is_drawn<M: Model>(alloc: Global, model: &M, to: u64, view: &View) -> Result<bool, Fail> {
     let mut bytes = Vec::new(alloc);
-    write_drawing(trace, view, &mut bytes)?;
+    let diagram = diagram_of(alloc, model, 200, to, u64::MAX, view)?;
+    write_drawing(&diagram, &mut bytes)?;
     Ok(is_well_formed(alloc, String::from_utf8(bytes)?.as_str())?)
 }
 
@@ -78,9 +80,9 @@ fn view_at(place: usize) -> View {
 }
 
 /// The place of the first view that is not drawn well.
-fn wrong_view(alloc: Global, trace: &Trace) -> Result<Option<usize>, Fail> {
+fn wrong_view<M: Model>(alloc: Global, model: &M, to: u64) -> Result<Option<usize>, Fail> {
     for place in 0..VIEWS.len() {
-        if !is_drawn(alloc, trace, &view_at(place))? {
+        if !is_drawn(alloc, model, to, &view_at(place))? {
             return Ok(Some(place));
         }
     }
@@ -89,12 +91,12 @@ fn wrong_view(alloc: Global, trace: &Trace) -> Result<Option<usize>, Fail> {
 
 #[test]
 fn each_picture_is_well_formed(rt: HostRuntime) -> Result<(), Fail> {
-    let trace = trace_of(rt.alloc(), &Phold::new(100, 3, 9, 5), 200, 150)?;
-    assert_eq!(rt; wrong_view(rt.alloc(), &trace)?, None);
-    let empty = trace_of(rt.alloc(), &Phold::new(1, 1, 9, 5), 200, 0)?;
-    assert_eq!(rt; wrong_view(rt.alloc(), &empty)?, None);
-    let ring = trace_of(rt.alloc(), &TokenRing::new(3, 2, 1), 10, 10)?;
-    assert_eq!(rt; wrong_view(rt.alloc(), &ring)?, None);
+    assert_eq!(rt;
+        wrong_view(rt.alloc(), &Phold::new(100, 3, 9, 5), 150)?,
+        None
+    );
+    assert_eq!(rt; wrong_view(rt.alloc(), &Phold::new(1, 1, 9, 5), 0)?, None);
+    assert_eq!(rt; wrong_view(rt.alloc(), &TokenRing::new(3, 2, 1), 10)?, None);
     Ok(())
 }
 

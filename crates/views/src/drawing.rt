@@ -5,7 +5,7 @@ ghost use Rattle.std.specs.Prelude.{false, true};
 ghost use Rattle.eventkey.specs.Writing.{Writes};
 ghost use Rattle.pictures.specs.Course.{course_text};
 ghost use Rattle.views.specs.Reading.{IsDrawnBy, IsPicture, IsPictureOf};
-ghost use Rattle.pictures.specs.Drawing.{drawing_text};
+ghost use Rattle.pictures.specs.Drawing.{IsDiagram, drawing_text};
 ghost use Rattle.pictures.specs.Load.{IsLoad, load_text};
 ghost use Rattle.pictures.specs.Run.{Run};
 ghost use Rattle.pictures.specs.declared.drawn.View.{View};
@@ -20,7 +20,7 @@ use crate::levels::dump_on;
 use crate::looking::{first_of, found_among, time_of};
 use cli::{DrawArgs, ModelFile, most_sectors};
 use pictures::{
-    Load, Row, Trace, View, load_of, read_rows, trace_before, write_course, write_drawing,
+    Diagram, Load, Row, View, diagram_of, load_of, read_rows, write_course, write_drawing,
     write_load,
 };
 use std::fs::{self, File};
@@ -218,29 +218,33 @@ where
         (O.contents out.old) (O.contents out.new)) }
 {
     let before = needed_to(seen);
-    let trace = traced_before::<M, R>(rt, model_file, disk, most, before)?;
-    found_among(first_of(seen.processes), trace.first().len() as u32)?;
     let view = view_of(seen);
-    write_view(&trace, &view, out)
+    let diagram = diagram_before::<M, R>(rt, model_file, disk, most, before, &view)?;
+    found_among(first_of(seen.processes), diagram.processes())?;
+    write_diagram(&diagram, out)
 }
 
 /// Runs the model of a file up to the time committed on a disk, of at most `most` sectors, or
-/// without a disk to its end, but only the part of that run before the tick `before`, and no further.
-fn traced_before<M, R>(
+/// without a disk to its end, but only the part of that run before the tick `before`, and no
+/// further. Returns the space-time diagram of that part.
+fn diagram_before<M, R>(
     rt: &R,
     model_file: ModelFile<'_>,
     disk: Option<&str>,
     most: u32,
     before: u64,
-) -> Result<Trace, ViewFault>
+    view: &View,
+) -> Result<Diagram, ViewFault>
 where
     M: Described,
     R: Files<File = File> + AllocGlobal,
-    ensures { IfOk result (IsTracedBefore M.meaning M.says disk.entry before) }
+    ensures { IfOk result (λ diagram. (run : Run)
+        × IsTracedBefore M.meaning M.says disk.entry before run
+        × IsDiagram run view.now diagram) }
 {
     let (model, end): (M, u64) = read_model_file(rt, model_file)?;
     let to = time_of(rt, &model, end, disk, most)?;
-    Ok(trace_before(rt.alloc(), &model, end, to, before)?)
+    Ok(diagram_of(rt.alloc(), &model, end, to, before, view)?)
 }
 
 /// Returns the tick before which the picture needs to know the run.
@@ -267,12 +271,12 @@ fn view_of(seen: Seen) -> View
 }
 
 /// Writes a space-time diagram, and flushes the writer.
-fn write_view<O: Write>(trace: &Trace, view: &View, out: &mut O) -> Result<(), ViewFault>
-    ensures written { Writes (O.contents out.old) (O.contents out.new) result
-        (drawing_text trace.now view.now) }
+fn write_diagram<O: Write>(diagram: &Diagram, out: &mut O) -> Result<(), ViewFault>
+    ensures written { (run : Run) (view : View) → IsDiagram run view diagram.now →
+        Writes (O.contents out.old) (O.contents out.new) result (drawing_text run view) }
     ensures fault { IsOkUnless result Output }
 {
-    flushed(write_drawing(trace, view, out), out)
+    flushed(write_drawing(diagram, out), out)
 }
 
 /// Writes the picture of the course of a run from the file of its trace.

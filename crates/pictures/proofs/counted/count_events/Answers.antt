@@ -65,8 +65,10 @@ loop-events-preserved g c =
     elim c.if-log-room.branch [
       | then-log-room+in_ok-short t ↦
           let is = t.in_ok-short.ensures in
+          let all = t.as_slice-unsent.ensures.value in
           rw (t.world-is, t.counts-is) (record {
-            counted = counted_forgotten m b c.args.end v t.in_ok-short.short c.add.new.self t.forget_times.new.counts (c.loop-events.events + 1) counted is.world is.counts is.pending;
+            counted = counted_forgotten m b c.args.end v t.in_ok-short.short c.add.new.self t.forget_times.new.senders (c.loop-events.events + 1) counted is.world
+                (rw all at is.senders) (rw all at is.pending) (rw all at is.others);
             end = ap (λ u. u.end) is.world;
             lps = ap (λ u. length u.world.states) is.world ∙ lps;
           })
