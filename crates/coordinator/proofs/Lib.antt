@@ -1,4 +1,5 @@
 mod Batches
+mod LastChanges
 mod Applying
 mod Sorting
 mod Judges
