@@ -18,7 +18,7 @@ use wire::WireFault;
 /// The maximum number of bytes in a frame's body.
 pub const MOST_BYTES: u32 = 1 << 24;
 
-/// The number of bytes of a body that are read at once.
+/// The number of bytes in the first piece of a body.
 const PIECE: usize = 4096;
 
 /// A frame whose body is not decoded yet.
@@ -56,7 +56,8 @@ pub(crate) fn fill<R: Read>(reader: &mut R, buffer: &mut [u8]) -> io::Result<usi
 }
 
 /// Reads `count` bytes; `None` if the input ends before. The memory that it takes grows with the
-/// bytes that arrive.
+/// bytes that arrive: each piece is as long as what came before it, so that few calls read a long
+/// body.
 pub(crate) fn read_bytes<R: Read>(
     alloc: Global,
     reader: &mut R,
@@ -65,14 +66,14 @@ pub(crate) fn read_bytes<R: Read>(
     ensures { Comes (λ v. v.items) count (R.remaining reader.old) (R.remaining reader.new) result }
 {
     let mut body = Vec::new(alloc);
-    let mut piece = [0; PIECE];
     while body.len() < count {
-        let room = PIECE.min(count - body.len());
-        let came = fill(reader, &mut piece[..room])?;
+        let start = body.len();
+        let room = start.max(PIECE).min(count - start);
+        body.resize(start + room, 0)?;
+        let came = fill(reader, &mut body[start..])?;
         if came < room {
             return Ok(None);
         }
-        body.extend_from_slice(&piece[..room])?;
     }
     Ok(Some(body))
 }
