@@ -14,7 +14,9 @@ use commands::{CommandFault, Simulated};
 use disk::{FileDisk, Returned};
 use disk_commands::{Fault, SystemErrors, new_behind};
 use model::Model as Modelled;
-use segments::archiving::{ArchivePlace, Archived, NotArchived, archive, remove_parts};
+use segments::archiving::{
+    ArchivePlace, Archived, NotArchived, archive, remove_parts, remove_second_names,
+};
 use std::alloc::Global;
 use std::fs::File;
 use std::io::Write;
@@ -118,8 +120,8 @@ fn say_refusal<P: Progress>(alloc: Global, refused: &NotArchived, progress: &mut
     }
 }
 
-/// Removes the parts beyond those that are kept of the disk with which a run begins: a run that was
-/// killed at a change of disks may have left one more. A disk that is no segment has none.
+/// Removes what an earlier run may have left that was killed at a change of disks: a second name of
+/// the disk, and a part more than are kept. A disk that is no segment has no parts.
 pub(crate) fn remove_surplus<M, R, P>(
     rt: &R,
     model: &M,
@@ -132,7 +134,14 @@ where
     R: Files<File = File> + AllocGlobal,
     P: Progress,
 {
-    if let (Some(newest), Some(into)) = (begun.believed(), archive) {
+    let Some(into) = archive else {
+        return;
+    };
+    match remove_second_names(rt, rt.alloc(), into.place.path) {
+        Ok(false) => {}
+        _ => progress.goes_on("a second name of the disk is not removed"),
+    }
+    if let Some(newest) = begun.believed() {
         remove_older(rt, model, into, newest, progress);
     }
 }

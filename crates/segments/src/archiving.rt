@@ -13,7 +13,7 @@ pub use beginning::begin_on;
 pub use changing::{ArchivePlace, Archived, NotArchived, archive};
 pub use fault::ArchiveFault;
 pub use left::{Left, is_begun, left_on};
-pub use parts::remove_parts;
+pub use parts::{remove_parts, remove_second_names};
 pub use reading::{
     beginning_in, events_before, front_on, may_have_origin, may_have_origin_in_row, origin_on,
 };

@@ -41,7 +41,7 @@ fn sync_folder(files: &impl Files<File = File>, path: &str) -> io::Result<()> {
 }
 
 /// Whether both names are of one file.
-fn are_one(files: &impl Files<File = File>, one: &str, other: &str) -> io::Result<bool> {
+pub(crate) fn are_one(files: &impl Files<File = File>, one: &str, other: &str) -> io::Result<bool> {
     let one = fs::symlink_metadata(files, one)?;
     let other = fs::symlink_metadata(files, other)?;
     Ok(one.dev() == other.dev() && one.ino() == other.ino())
