@@ -190,11 +190,15 @@ reserved_option = record (flag (codes "reserved")) { long = Some (codes "reserve
 abbrev pub kept_option : Rule
 kept_option = record (flag (codes "kept")) { long = Some (codes "keep-model") }
 
--- how a run is made: 1 to 64 nodes; a batch; nodes that work at the same time, or also while
+-- the most nodes of a run
+abbrev pub most_nodes : ℕ
+most_nodes = 64
+
+-- how a run is made: some nodes; a batch; nodes that work at the same time, or also while
 -- replies are taken; without nodes
 abbrev pub run_made : App
 run_made = with_rule (with_rule (with_rule (with_rule (with_rule
-    (on_disk (codes "run")) (optional_number (codes "nodes") 1 64))
+    (on_disk (codes "run")) (optional_number (codes "nodes") 1 most_nodes))
     (any_text (codes "batch")))
     (flag (codes "together")))
     (flag (codes "overlap")))
@@ -824,7 +828,7 @@ SaysNew args rows = SaysDisk args.on rows × SaysSectors args.sectors args.on.la
 
 abbrev pub SaysRun : RunArgs → List Row → Type 0
 SaysRun args rows = SaysDisk args.on rows
-    × (args.nodes ≡ number_or (codes "nodes") 1 64 1 rows)
+    × (args.nodes ≡ number_or (codes "nodes") 1 most_nodes 1 rows)
     × (args.batch ≡ batch_in rows)
     × (args.rounds ≡ rounds_in rows)
     × (args.checkpoint ≡ optional_number_in (codes "checkpoint") 1 1000000 rows)
@@ -985,7 +989,7 @@ abbrev pub IsSized : ℕ → Bool → Type 0
 IsSized sectors large = (8 ≤ sectors) × (sectors ≤ most_sectors large)
 
 abbrev pub IsRunRanged : RunArgs → Type 0
-IsRunRanged args = (1 ≤ args.nodes) × (args.nodes ≤ 64) × IsBatchRanged args.batch
+IsRunRanged args = (1 ≤ args.nodes) × (args.nodes ≤ most_nodes) × IsBatchRanged args.batch
     × (1 ≤ args.rounds) × IsWithin 1 1000000 args.checkpoint × IsWithin 1 400000 args.commit_every
     × IsWithin 1 86400 args.silence × IsWithin 0 1000000 args.retries
     × IsWithin 1 86400 args.progress × IsSized args.sectors args.on.large

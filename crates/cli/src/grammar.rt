@@ -278,7 +278,7 @@ fn run_apart<'a>(alloc: Global) -> Result<ClapCommand<'a>, AllocError>
 fn run_made<'a>(alloc: Global) -> Result<ClapCommand<'a>, AllocError>
     ensures { IfOk result (IsApp run_made) }
 {
-    let nodes = optional_number(alloc, "nodes", "N", 1, 64, NODES_HELP);
+    let nodes = optional_number(alloc, "nodes", "N", 1, MOST_NODES, NODES_HELP);
     let batch = any_text(alloc, "batch", "N", BATCH_HELP);
     let command = with_option(on_disk(alloc, "run", RUN_ABOUT, RUN_HELP), NODES, nodes);
     let command = with_option(command, NODES, batch);
@@ -329,6 +329,9 @@ fn kept_option<'a>(alloc: Global) -> Arg<'a>
 const RUN_ABOUT: &str = "Runs a model on its disk, from the last commit to its end";
 
 // These three have no default for `clap`, so that one sees whether they are used.
+
+/// The maximum number of nodes of a run.
+pub(crate) const MOST_NODES: u64 = 64;
 
 const NODES_HELP: &str = "How many nodes share the processes, 1 to 64 [default: 1]";
 

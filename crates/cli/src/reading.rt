@@ -16,7 +16,7 @@ use crate::command::{
     StatusArgs, VerifyArgs,
 };
 use crate::company::LAST_TIME;
-use crate::grammar::{Texts, most_sectors, program};
+use crate::grammar::{MOST_NODES, Texts, most_sectors, program};
 use crate::values::{
     batch, format, is_flagged, is_text, judge, optional_number, optional_small_number,
     optional_text, range, refusal, rounds, small_number, small_number_or, table, text,
@@ -198,7 +198,7 @@ fn run_args<'a>(values: &ArgMatches<'a>, settings: Settings<'a>) -> RunArgs<'a>
     let on = disk_args(values, settings);
     RunArgs {
         on,
-        nodes: small_number_or(values, "nodes", 1, 64, 1),
+        nodes: small_number_or(values, "nodes", 1, MOST_NODES as u32, 1),
         batch: batch(values),
         rounds: rounds(values),
         checkpoint: optional_small_number(values, "checkpoint", 1, 1_000_000),

@@ -15,6 +15,7 @@ use Rattle.wire.specs.Port.{PortState, Stage, no_faults, nobody}
 use Rattle.wire.specs.Port.Stage.{Fresh, Idle, Posted}
 use Rattle.gvt.specs.Sound.{IsSystem}
 use Rattle.gvt.specs.Views.{node_view}
+use Rattle.node.specs.Node.{most_nodes}
 
 -- A session as contracts see it. The meaning of its model, the states of its ports and what a crash
 -- may leave of its disk are ghost values of those fields.
@@ -101,7 +102,7 @@ pub record IsFit (r : Running) : Type 0 where
   pub short : r.end ≤ 2 ^ 40
   pub parcels : length r.ledger.parcels ≡ length r.ports
   pub floors : length r.ledger.floors ≡ length r.ports
-  pub few : length r.ports ≤ 64
+  pub few : length r.ports ≤ most_nodes
   pub stages : (k : ℕ) → k < length r.ports →
       (port_at r.ports k).stage ≡ stage_by (get_or r.ledger.parcels k None)
   pub states : length r.front.states ≡ r.meaning.lps

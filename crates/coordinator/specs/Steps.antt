@@ -2,7 +2,7 @@
 use Rattle.std.specs.Prelude.{Bool, IfErr, IfOk, IsErrOf, List, None, OnErr, OnOk, Option, Result, Some}
 use Rattle.std.specs.Prelude.{Err, [], false, if◌then◌else◌, length, nat_lt, not, true, ℕ, ◌&&◌}
 use Rattle.std.specs.Prelude.{◌*◌, ◌++◌, ◌+◌, ◌<◌, ◌^◌, ◌∷◌, ◌≡◌, ◌≤◌, ◌⊎◌}
-use Rattle.commitlog.specs.Records.{HasRoom, entry_with, seal_of}
+use Rattle.commitlog.specs.Records.{HasRoom, entry_with, seal_of, most_record_bytes}
 use Rattle.commitlog.specs.declared.records.Entry.{Entry}
 use Rattle.disk.specs.Disk.{DiskState}
 use Rattle.gvt.specs.Ledger.{least_floor}
@@ -76,7 +76,7 @@ next_events end p = length (reported_before (next_time end p) p.gathered)
 -- there is something to commit, and its record is not too long
 abbrev pub MayCommit : Running → Type 0
 MayCommit r = (r.front.time < next_time r.end (system_of r))
-    × (17 + 56 * next_events r.end (system_of r) ≤ 2 ^ 24)
+    × (17 + 56 * next_events r.end (system_of r) ≤ most_record_bytes)
 
 -- the gathered reports that a commit would take are those of the front
 abbrev pub AreNextReports : Running → Type 0
@@ -114,10 +114,10 @@ first_refusal end (TakeMove node) p =
     if not (nat_lt node (nodes_of p)) then Some NoSuchNode
     else if is_busy p node then None else Some Idle
 first_refusal end CommitMove p =
-    if nat_lt p.front.time (next_time end p) && nat_lt (2 ^ 24) (17 + 56 * next_events end p)
+    if nat_lt p.front.time (next_time end p) && nat_lt most_record_bytes (17 + 56 * next_events end p)
     then Some TooLong else None
 first_refusal end CheckpointMove p =
-    if nat_lt (2 ^ 24) (5 + length (kept_body p)) then Some TooLong else None
+    if nat_lt most_record_bytes (5 + length (kept_body p)) then Some TooLong else None
 
 -- the port that a move calls
 abbrev pub port_called : Move → List PortState → PortState

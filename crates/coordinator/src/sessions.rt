@@ -11,6 +11,7 @@ ghost use Rattle.coordinator.specs.Opening.{OpeningIsRefused};
 ghost use Rattle.coordinator.specs.PortFaults.{LocalSessionsHaveNoFrames};
 ghost use Rattle.coordinator.specs.Steps.{move_of};
 ghost use Rattle.model.specs.World.{World};
+ghost use Rattle.node.specs.Node.{most_nodes};
 
 use crate::{DriveFault, Session, SessionFault, Step};
 use disk::{NotOpened, SectorDisk};
@@ -47,7 +48,7 @@ pub fn resume<M: Simulated, P: Port + Drop, D: SectorDisk>(
     steps: &[Step],
 ) -> Resumed<D>
     requires some { 1 ≤ length ports.items }
-    requires few { length ports.items ≤ 64 }
+    requires few { length ports.items ≤ most_nodes }
     requires fresh { AllFresh (map P.state ports.items) }
     requires begun { 1 ≤ end }
     requires short { end ≤ 2 ^ 40 }

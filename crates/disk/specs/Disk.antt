@@ -1,18 +1,33 @@
 -- The state of a disk of sectors, and what a crash may leave of it.
 use Rattle.std.specs.Prelude.{◌/◌, ◌<◌, ◌≤◌, ◌≡◌, ◌⊎◌, ◌^◌, ℕ, Bool, true, false, List, [], ◌∷◌}
-use Rattle.std.specs.Prelude.{length, slice_index, slice_index_or, Result, IsErrOf}
+use Rattle.std.specs.Prelude.{length, replicate, slice_index, slice_index_or, Result, IsErrOf}
 use Rattle.std.specs.Simd.{first_chunks}
 use Rattle.disk.specs.declared.disk.DiskFault.{DiskFault}
 use Rattle.disk.specs.declared.disk.DiskFault.TheVariants.{Device}
 
--- the content of a sector: 512 bytes
+-- the number of bytes of a sector
+abbrev pub sector_bytes : ℕ
+sector_bytes = 512
+
+-- the fewest and the most sectors of a disk that a file holds; a large one has up to 2 ^ 24
+abbrev pub least_sectors : ℕ
+least_sectors = 8
+
+abbrev pub most_sectors : ℕ
+most_sectors = 2 ^ 17
+
+-- a sector of zeros
+abbrev pub zero_sector : List ℕ
+zero_sector = replicate sector_bytes 0
+
+-- the content of a sector
 pub record IsSector (sector : List ℕ) : Type 0 where
-  pub size : length sector ≡ 512
+  pub size : length sector ≡ sector_bytes
   pub bytes : (i : ℕ) → slice_index sector i < 256
 
 -- the whole sectors of these bytes
 abbrev pub image_of : List ℕ → List (List ℕ)
-image_of bytes = first_chunks 512 (length bytes / 512) bytes
+image_of bytes = first_chunks sector_bytes (length bytes / sector_bytes) bytes
 
 -- fewer than 2 ^ 32 sectors of 512 bytes, each of them dirty or not
 pub record IsDisk (reads : List (List ℕ)) (dirty : List Bool) : Type 0 where

@@ -1,7 +1,7 @@
 -- A disk over a file, modelled by the image that it keeps in memory.
 use Rattle.std.specs.Prelude.{◌≡◌, ◌<◌, ◌≤◌, ℕ, Bool, true, false, List, Option, Some, None}
 use Rattle.std.specs.Prelude.{slice_index_or}
-use Rattle.disk.specs.Disk.{IsDisk, PastState, DiskState}
+use Rattle.disk.specs.Disk.{IsDisk, PastState, DiskState, least_sectors}
 
 -- what reads give, which sectors are dirty, the states at earlier moments, and how often the file
 -- has failed
@@ -22,7 +22,7 @@ disk_of_file disk = record {
 
 -- the number of sectors that a file may have: the given number, or 8 to `most` if none is given
 abbrev pub MayHave : Option ℕ → ℕ → ℕ → Type 0
-MayHave None most count = (8 ≤ count) × (count ≤ most)
+MayHave None most count = (least_sectors ≤ count) × (count ≤ most)
 MayHave (Some sectors) most count = count ≡ sectors
 
 -- The first run of adjacent dirty sectors between `from` and `end` goes from `first` to before

@@ -1,12 +1,12 @@
 -- Growing a disk: sectors of zeros are appended to the old ones.
 use Rattle.std.specs.Prelude.{◌≡◌, ◌-◌, ◌<◌, ◌≤◌, ℕ, zero, suc, Bool, true, false, List, []}
 use Rattle.std.specs.Prelude.{◌∷◌, ◌++◌, length, replicate}
-use Rattle.disk.specs.Disk.{MayLeave, PastState, past_state}
+use Rattle.disk.specs.Disk.{MayLeave, PastState, past_state, zero_sector}
 use Rattle.disk.specs.declared.growing.GrowthFault.{GrowthFault}
 use Rattle.disk.specs.declared.growing.GrowthFault.TheVariants.{Fewer, TooMany, NoMemory, Device}
 
 abbrev pub zero_sectors : ℕ → List (List ℕ)
-zero_sectors count = replicate count (replicate 512 0)
+zero_sectors count = replicate count zero_sector
 
 -- these sectors, followed by zeros up to this number of sectors
 abbrev pub grown_to : ℕ → List (List ℕ) → List (List ℕ)

@@ -1,7 +1,7 @@
 -- A disk in memory, and the image that its crash leaves.
 use Rattle.std.specs.Prelude.{◌≡◌, ◌<◌, ℕ, Bool, false, List, [], length, replicate, slice_index_or}
 use Rattle.std.specs.Prelude.{if◌then◌else◌, ◌++◌, take, drop}
-use Rattle.disk.specs.Disk.{IsDisk, PastState, DiskState}
+use Rattle.disk.specs.Disk.{IsDisk, PastState, DiskState, sector_bytes}
 use Rattle.disk.specs.Plans.{Counts}
 use Rattle.disk.specs.declared.memory.Torn.{Torn}
 use Rattle.disk.specs.declared.memory.Torn.TheVariants.{Old, New, Fill, Cut}
@@ -30,7 +30,7 @@ disk_of_memory disk = record {
 abbrev pub torn_content : Torn → MemoryState → ℕ → List ℕ
 torn_content Old disk n = slice_index_or disk.synced n []
 torn_content New disk n = slice_index_or disk.attempted n []
-torn_content (Fill byte) disk n = replicate 512 byte
+torn_content (Fill byte) disk n = replicate sector_bytes byte
 torn_content (Cut count) disk n =
     take count (slice_index_or disk.attempted n []) ++ drop count (slice_index_or disk.synced n [])
 

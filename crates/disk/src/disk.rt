@@ -7,6 +7,12 @@ ghost use Rattle.disk.specs.Laws.{counts_now as now_counts, only_now as now_only
 
 use thiserror::Error;
 
+/// The number of bytes of a sector.
+pub const SECTOR_BYTES: usize = 512;
+
+/// The content of a sector.
+pub type Sector = [u8; SECTOR_BYTES];
+
 /// Why a call of a disk was refused.
 #[derive(Clone, Copy, Debug, PartialEq, Eq, Error)]
 pub enum DiskFault {
@@ -32,7 +38,7 @@ pub trait SectorDisk {
         ensures { result ≡ length (state self.now).reads };
 
     /// Reads sector `n`. `NoSuchSector` is checked before `Device`.
-    fn read(&mut self, n: u32, sector: &mut [u8; 512]) -> Result<(), DiskFault>
+    fn read(&mut self, n: u32, sector: &mut Sector) -> Result<(), DiskFault>
         ensures content { OnOk result (slice_index_or (state self.old).reads n [] ≡ sector.new) }
 
         // at every exit
@@ -49,7 +55,7 @@ pub trait SectorDisk {
     /// Writes sector `n`, which is then dirty until a successful sync. A failed write also makes it
     /// dirty; reads then give some 512 bytes, the same ones until its next write. `NoSuchSector` is
     /// checked before `Device`.
-    fn write(&mut self, n: u32, sector: &[u8; 512]) -> Result<(), DiskFault>
+    fn write(&mut self, n: u32, sector: &Sector) -> Result<(), DiskFault>
         ensures written { OnOk result
             ((state self.new).reads ≡ slice_set (state self.old).reads n sector.now) }
 
@@ -101,11 +107,7 @@ pub trait SectorDisk {
 /// At every exit, a crash at some moment since before the write may have left any 512 bytes in the
 /// sector. This holds after a successful sync too, when a crash now leaves exactly what was
 /// written.
-pub fn write_through<D: SectorDisk>(
-    disk: &mut D,
-    n: u32,
-    sector: &[u8; 512],
-) -> Result<(), DiskFault>
+pub fn write_through<D: SectorDisk>(disk: &mut D, n: u32, sector: &Sector) -> Result<(), DiskFault>
     ensures written { OnOk result
         ((D.state disk.new).reads ≡ slice_set (D.state disk.old).reads n sector.now) }
     ensures in_sync { OnOk result (IsSynced (D.state disk.new).dirty) }

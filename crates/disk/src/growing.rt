@@ -9,6 +9,9 @@ use crate::SectorDisk;
 use std::alloc::{AllocError, Global};
 use thiserror::Error;
 
+/// The minimum number of sectors of a file that is opened as a disk without a given size.
+pub const LEAST_SECTORS: u32 = 8;
+
 /// The default maximum number of sectors of a disk: 64 MiB, 512 bytes a sector.
 pub const MOST_SECTORS: u32 = 131_072;
 

@@ -1,11 +1,12 @@
 // The image of a disk in memory: its sectors, and which of them are dirty.
 ghost use Rattle.std.specs.Prelude.{◌≡◌, ◌/◌, ◌<◌, ◌≤◌, ◌^◌, ℕ, List, [], true, false, length};
 ghost use Rattle.std.specs.Prelude.{replicate, slice_set, slice_index_or, IfOk};
-ghost use Rattle.disk.specs.Disk.{image_of, IsSynced, IsSector, IsSpan};
+ghost use Rattle.disk.specs.Disk.{image_of, IsSynced, IsSector, IsSpan, sector_bytes, zero_sector};
 ghost use Rattle.disk.specs.Growth.{grown_to};
 
 use crate::kept::Sectors;
 use crate::storing::Stored;
+use crate::{SECTOR_BYTES, Sector};
 use std::alloc::{AllocError, Global};
 
 /// The sectors, whether each is dirty, and a span that contains all dirty ones. A sync scans only
@@ -39,7 +40,7 @@ impl Image {
     /// Returns an image of zeros, with no dirty sector.
     pub fn blank(alloc: Global, count: u32) -> Result<Image, AllocError>
         ensures sectors { IfOk result
-            (λ image. image.sectors.items ≡ replicate count (replicate 512 0)) }
+            (λ image. image.sectors.items ≡ replicate count zero_sector) }
         ensures in_sync { IfOk result (λ image. IsSynced image.dirty.items) }
     {
         Image::in_sync(alloc, Sectors::blank(alloc, count)?)
@@ -47,14 +48,14 @@ impl Image {
 
     /// Returns an image of the whole sectors of these bytes, with no dirty sector.
     pub fn of(alloc: Global, bytes: &[u8]) -> Result<Image, AllocError>
-        requires { length bytes.now / 512 < 2 ^ 32 }
+        requires { length bytes.now / sector_bytes < 2 ^ 32 }
         ensures sectors { IfOk result (λ image. image.sectors.items ≡ image_of bytes.now) }
         ensures in_sync { IfOk result (λ image. IsSynced image.dirty.items) }
     {
-        Image::of_sectors(alloc, bytes.as_chunks::<512>().0)
+        Image::of_sectors(alloc, bytes.as_chunks::<SECTOR_BYTES>().0)
     }
 
-    fn of_sectors(alloc: Global, sectors: &[[u8; 512]]) -> Result<Image, AllocError>
+    fn of_sectors(alloc: Global, sectors: &[Sector]) -> Result<Image, AllocError>
         requires numbered { length sectors.now < 2 ^ 32 }
         requires whole { (n : ℕ) → n < length sectors.now →
             IsSector (slice_index_or sectors.now n []) }
@@ -96,7 +97,7 @@ impl Image {
         self.sectors.count()
     }
 
-    pub fn sector(&self, n: u32) -> [u8; 512]
+    pub fn sector(&self, n: u32) -> Sector
         requires { n < length self.now.sectors.items }
         ensures { result ≡ slice_index_or self.now.sectors.items n [] }
     {
@@ -104,7 +105,7 @@ impl Image {
     }
 
     /// Sets the content of sector `n`.
-    pub fn put(&mut self, n: u32, sector: &[u8; 512])
+    pub fn put(&mut self, n: u32, sector: &Sector)
         requires { n < length self.old.sectors.items }
         ensures sectors { self.new.sectors.items ≡ slice_set self.old.sectors.items n sector.now }
         ensures dirty { self.new.dirty.items ≡ self.old.dirty.items }
@@ -114,7 +115,7 @@ impl Image {
 
     /// Sets the content of sector `n`. If it is zeros and lies after the kept sectors, it takes no
     /// memory.
-    pub fn put_sparsely(&mut self, n: u32, sector: &[u8; 512])
+    pub fn put_sparsely(&mut self, n: u32, sector: &Sector)
         requires { n < length self.old.sectors.items }
         ensures sectors { self.new.sectors.items ≡ slice_set self.old.sectors.items n sector.now }
         ensures dirty { self.new.dirty.items ≡ self.old.dirty.items }

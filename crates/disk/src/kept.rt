@@ -2,7 +2,9 @@
 ghost use Rattle.std.specs.Prelude.{◌≡◌, ◌+◌, ◌<◌, ◌≤◌, ◌^◌, ◌++◌, ℕ, List, [], true, length};
 ghost use Rattle.std.specs.Prelude.{replicate, slice_set, slice_index_or, take, IfOk};
 ghost use Rattle.disk.specs.Growth.{grown_to, zero_sectors};
+ghost use Rattle.disk.specs.Disk.{zero_sector};
 
+use crate::{SECTOR_BYTES, Sector};
 use std::alloc::{AllocError, Global};
 use std::marker::Model;
 
@@ -12,7 +14,7 @@ use std::marker::Model;
 /// used. So no later call allocates, and sectors that were never put take no memory.
 #[derive(Drop)]
 pub struct Sectors {
-    kept: Vec<[u8; 512]>,
+    kept: Vec<Sector>,
     count: u32,
 }
 
@@ -27,18 +29,14 @@ impl Model for Sectors {
 }
 
 /// Returns `count` sectors of zeros.
-fn zeros(alloc: Global, count: u32) -> Result<Vec<[u8; 512]>, AllocError>
+fn zeros(alloc: Global, count: u32) -> Result<Vec<Sector>, AllocError>
     ensures { IfOk result (λ sectors. sectors.items ≡ zero_sectors count) }
 {
-    vec![in alloc; [0; 512]; count as usize]
+    vec![in alloc; [0; SECTOR_BYTES]; count as usize]
 }
 
 /// Returns the sectors of `front` followed by those of `behind`.
-fn joined(
-    alloc: Global,
-    front: &[[u8; 512]],
-    behind: &[[u8; 512]],
-) -> Result<Vec<[u8; 512]>, AllocError>
+fn joined(alloc: Global, front: &[Sector], behind: &[Sector]) -> Result<Vec<Sector>, AllocError>
     requires { length front.now + length behind.now < 2 ^ 32 }
     ensures { IfOk result (λ all. all.items ≡ front.now ++ behind.now) }
 {
@@ -48,10 +46,10 @@ fn joined(
     Ok(all)
 }
 
-fn is_zero(sector: &[u8; 512]) -> bool
-    ensures { result ≡ true → sector.now ≡ replicate 512 0 }
+fn is_zero(sector: &Sector) -> bool
+    ensures { result ≡ true → sector.now ≡ zero_sector }
 {
-    *sector == [0; 512]
+    *sector == [0; SECTOR_BYTES]
 }
 
 impl Sectors {
@@ -64,7 +62,7 @@ impl Sectors {
     }
 
     /// Returns a copy of these sectors, all of them kept.
-    pub fn of(alloc: Global, sectors: &[[u8; 512]]) -> Result<Sectors, AllocError>
+    pub fn of(alloc: Global, sectors: &[Sector]) -> Result<Sectors, AllocError>
         requires { length sectors.now < 2 ^ 32 }
         ensures items { IfOk result (λ all. all.items ≡ sectors.now) }
     {
@@ -88,7 +86,7 @@ impl Sectors {
     }
 
     /// Returns a copy of all sectors, including the zeros after the kept ones.
-    pub fn copied(&self, alloc: Global) -> Result<Vec<[u8; 512]>, AllocError>
+    pub fn copied(&self, alloc: Global) -> Result<Vec<Sector>, AllocError>
         ensures { IfOk result (λ all. all.items ≡ self.now.items) }
     {
         let behind = zeros(alloc, self.count - self.kept.len() as u32)?;
@@ -102,21 +100,21 @@ impl Sectors {
     }
 
     /// Returns the kept sectors.
-    pub fn kept(&self) -> &[[u8; 512]]
+    pub fn kept(&self) -> &[Sector]
         ensures kept { length result.now ≡ self.now.kept }
         ensures first { result.now ≡ take self.now.kept self.now.items }
     {
         &self.kept
     }
 
-    pub fn get(&self, n: usize) -> [u8; 512]
+    pub fn get(&self, n: usize) -> Sector
         requires { n < length self.now.items }
         ensures { result ≡ slice_index_or self.now.items n [] }
     {
         if n < self.kept.len() {
             self.kept[n]
         } else {
-            [0; 512]
+            [0; SECTOR_BYTES]
         }
     }
 
@@ -128,12 +126,12 @@ impl Sectors {
         ensures more { self.old.kept ≤ self.new.kept }
     {
         while self.kept.len() <= n {
-            self.kept.push_reserved([0; 512]);
+            self.kept.push_reserved([0; SECTOR_BYTES]);
         }
     }
 
     /// Sets the content of sector `n`, and keeps it.
-    pub fn put(&mut self, n: usize, sector: &[u8; 512])
+    pub fn put(&mut self, n: usize, sector: &Sector)
         requires { n < length self.old.items }
         ensures items { self.new.items ≡ slice_set self.old.items n sector.now }
         ensures more { self.old.kept ≤ self.new.kept }
@@ -144,7 +142,7 @@ impl Sectors {
 
     /// Sets the content of sector `n`. If it is zeros and lies after the kept sectors, it is not
     /// kept.
-    pub fn put_sparsely(&mut self, n: usize, sector: &[u8; 512])
+    pub fn put_sparsely(&mut self, n: usize, sector: &Sector)
         requires { n < length self.old.items }
         ensures items { self.new.items ≡ slice_set self.old.items n sector.now }
         ensures more { self.old.kept ≤ self.new.kept }

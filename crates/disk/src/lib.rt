@@ -15,9 +15,9 @@ mod storing;
 mod system;
 mod tally;
 
-pub use disk::{DiskFault, SectorDisk, write_through};
+pub use disk::{DiskFault, SECTOR_BYTES, Sector, SectorDisk, write_through};
 pub use file::{FileDisk, FileError, FileFault, Room};
-pub use growing::{GrowingDisk, GrowthFault, MOST_SECTORS, MOST_SECTORS_OF_LARGE};
+pub use growing::{GrowingDisk, GrowthFault, LEAST_SECTORS, MOST_SECTORS, MOST_SECTORS_OF_LARGE};
 pub use memory::{MemDisk, Torn};
 pub use plan::DiskPlan;
 pub use returned::{NotOpened, Returned};

@@ -4,12 +4,13 @@ ghost use Rattle.std.specs.Prelude.{true, false, length, replicate, slice_set, s
 ghost use Rattle.std.specs.Prelude.{◌++◌, take, drop};
 ghost use Rattle.std.specs.Prelude.{OnOk, OnErr, IfOk, IsErrOf};
 ghost use Rattle.disk.specs.Disk.{image_of, IsSynced, IsSector, MayLeave, Elapses, HasCause};
+ghost use Rattle.disk.specs.Disk.{sector_bytes, zero_sector};
 
 use crate::history::History;
 use crate::image::Image;
-use crate::plan::Schedule;
+use crate::plan::PlanProgress;
 use crate::storing::copy_dirty;
-use crate::{DiskFault, DiskPlan, GrowingDisk, GrowthFault, SectorDisk};
+use crate::{DiskFault, DiskPlan, GrowingDisk, GrowthFault, SECTOR_BYTES, Sector, SectorDisk};
 use std::alloc::{AllocError, Global};
 use std::marker::Model;
 
@@ -31,9 +32,9 @@ pub enum Torn {
 /// power cut would leave. Only its constructors, [`crash`](MemDisk::crash) and `grow` allocate.
 pub struct MemDisk {
     image: Image,
-    synced: Vec<[u8; 512]>,
-    attempted: Vec<[u8; 512]>,
-    schedule: Schedule,
+    synced: Vec<Sector>,
+    attempted: Vec<Sector>,
+    schedule: PlanProgress,
     history: History,
 }
 
@@ -76,7 +77,7 @@ impl SectorDisk for MemDisk {
     }
 
     #[tactic(auto, unfolding(crate::specs::Disk::left_since, crate::specs::Disk::moment))]
-    fn read(&mut self, n: u32, sector: &mut [u8; 512]) -> Result<(), DiskFault>
+    fn read(&mut self, n: u32, sector: &mut Sector) -> Result<(), DiskFault>
         ensures content { OnOk result (slice_index_or self.old.reads n [] ≡ sector.new) }
         ensures same_reads { self.new.reads ≡ self.old.reads }
         ensures same_dirty { self.new.dirty ≡ self.old.dirty }
@@ -107,7 +108,7 @@ impl SectorDisk for MemDisk {
     }
 
     #[tactic(auto, unfolding(crate::specs::Disk::left_since, crate::specs::Disk::moment))]
-    fn write(&mut self, n: u32, sector: &[u8; 512]) -> Result<(), DiskFault>
+    fn write(&mut self, n: u32, sector: &Sector) -> Result<(), DiskFault>
         ensures written { OnOk result (self.new.reads ≡ slice_set self.old.reads n sector.now) }
         ensures elsewhere { self.new.reads ≡ slice_set self.old.reads n
             (slice_index_or self.new.reads n []) }
@@ -238,7 +239,7 @@ impl MemDisk {
     /// Makes a disk of this many sectors of zeros, with no planned failure. Returns `AllocError` if
     /// an allocation fails.
     pub fn blank(alloc: Global, sectors: u32) -> Result<MemDisk, AllocError>
-        ensures reads { IfOk result (λ disk. disk.reads ≡ replicate sectors (replicate 512 0)) }
+        ensures reads { IfOk result (λ disk. disk.reads ≡ replicate sectors zero_sector) }
         ensures synced { IfOk result (λ disk. disk.synced ≡ disk.reads) }
         ensures attempted { IfOk result (λ disk. disk.attempted ≡ disk.reads) }
         ensures in_sync { IfOk result (λ disk. IsSynced disk.dirty) }
@@ -251,7 +252,7 @@ impl MemDisk {
     /// Makes a disk of the whole sectors of these bytes, fewer than 2^32, all of them synced.
     /// Returns `AllocError` if an allocation fails.
     pub fn of(alloc: Global, image: Vec<u8>, plan: DiskPlan) -> Result<MemDisk, AllocError>
-        requires { length image.items / 512 < 2 ^ 32 }
+        requires { length image.items / sector_bytes < 2 ^ 32 }
         ensures reads { IfOk result (λ disk. disk.reads ≡ image_of image.items) }
         ensures synced { IfOk result (λ disk. disk.synced ≡ disk.reads) }
         ensures attempted { IfOk result (λ disk. disk.attempted ≡ disk.reads) }
@@ -276,7 +277,7 @@ impl MemDisk {
             image,
             synced,
             attempted,
-            schedule: Schedule::new(plan),
+            schedule: PlanProgress::new(plan),
             history: History::new(),
         })
     }
@@ -284,13 +285,13 @@ impl MemDisk {
     /// Returns the bytes that a crash leaves now, 512 for each sector. Returns `AllocError` if an
     /// allocation fails.
     pub fn crash(&self, alloc: Global, torn: Torn) -> Result<Vec<u8>, AllocError>
-        ensures size { IfOk result (λ bytes. length bytes.items ≡ length self.now.reads * 512) }
+        ensures size { IfOk result (λ bytes. length bytes.items ≡ length self.now.reads * sector_bytes) }
         ensures image { IfOk result (λ bytes. IsCrashed torn self.now (image_of bytes.items)) }
         ensures left { IfOk result
             (λ bytes. MayLeave self.now.reads self.now.dirty (image_of bytes.items)) }
     {
         let count = self.image.count() as usize;
-        let mut bytes = Vec::with_capacity(alloc, count * 512)?;
+        let mut bytes = Vec::with_capacity(alloc, count * SECTOR_BYTES)?;
         for n in 0..count {
             bytes.extend_from_slice(&self.left_in(torn, n))?;
         }
@@ -298,7 +299,7 @@ impl MemDisk {
     }
 
     /// Returns what a crash leaves in sector `n`.
-    fn left_in(&self, torn: Torn, n: usize) -> [u8; 512]
+    fn left_in(&self, torn: Torn, n: usize) -> Sector
         requires { n < length self.now.reads }
         ensures content { result ≡ crash_content torn self.now n }
         ensures whole { IsSector result }
@@ -309,17 +310,17 @@ impl MemDisk {
         match torn {
             Torn::Old => self.synced[n],
             Torn::New => self.attempted[n],
-            Torn::Fill(byte) => [byte; 512],
+            Torn::Fill(byte) => [byte; SECTOR_BYTES],
             Torn::Cut(count) => cut(usize::from(count), &self.attempted[n], &self.synced[n]),
         }
     }
 }
 
 /// Returns the first `count` bytes of `one`, followed by the rest of `other`.
-fn cut(count: usize, one: &[u8; 512], other: &[u8; 512]) -> [u8; 512]
+fn cut(count: usize, one: &Sector, other: &Sector) -> Sector
     ensures { result ≡ take count one.now ++ drop count other.now }
 {
-    let count = count.min(512);
+    let count = count.min(SECTOR_BYTES);
     let mut sector = *other;
     sector[..count].copy_from_slice(&one[..count]);
     sector

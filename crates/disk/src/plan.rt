@@ -1,7 +1,7 @@
 // The planned failures of a disk in memory.
 ghost use Rattle.std.specs.Prelude.{◌≡◌};
 
-use crate::tally::Tally;
+use crate::tally::FailureCount;
 use std::marker::Model;
 
 /// The operations of a [`MemDisk`](crate::MemDisk) that fail with `Device`.
@@ -19,15 +19,15 @@ pub struct DiskPlan {
 
 /// A plan, and the numbers of operations and writes so far. The counts saturate at 2^64 - 1.
 #[derive(Drop)]
-pub struct Schedule {
+pub struct PlanProgress {
     plan: DiskPlan,
     operations: u64,
     writes: u64,
     stopped: bool,
-    failures: Tally,
+    failures: FailureCount,
 }
 
-impl Model for Schedule {
+impl Model for PlanProgress {
     ghost use Rattle.disk.specs.Plans.{Counts};
 
     ghost Value = { Counts };
@@ -41,7 +41,7 @@ impl Model for Schedule {
     } };
 }
 
-impl Schedule {
+impl PlanProgress {
     ghost use Rattle.disk.specs.Plans.{is_at, started, fails, operation_counted};
     ghost use Rattle.disk.specs.Plans.{write_fails, write_counted};
 
@@ -54,15 +54,15 @@ impl Schedule {
         }
     }
 
-    pub fn new(plan: DiskPlan) -> Schedule
+    pub fn new(plan: DiskPlan) -> PlanProgress
         ensures { result ≡ started plan }
     {
-        Schedule {
+        PlanProgress {
             plan,
             operations: 0,
             writes: 0,
             stopped: false,
-            failures: Tally::new(),
+            failures: FailureCount::new(),
         }
     }
 
@@ -71,7 +71,7 @@ impl Schedule {
         ensures fails { result ≡ fails self.old }
         ensures counts { self.new ≡ operation_counted self.old }
     {
-        let fails = self.stopped || Schedule::is_at(self.plan.fail, self.operations);
+        let fails = self.stopped || PlanProgress::is_at(self.plan.fail, self.operations);
         self.operations = self.operations.saturating_add(1);
         if fails {
             self.failures = self.failures.and_one();
@@ -84,7 +84,7 @@ impl Schedule {
         ensures fails { result ≡ write_fails self.old }
         ensures counts { self.new ≡ write_counted self.old }
     {
-        self.stopped = self.stopped || Schedule::is_at(self.plan.stop, self.writes);
+        self.stopped = self.stopped || PlanProgress::is_at(self.plan.stop, self.writes);
         self.writes = self.writes.saturating_add(1);
         self.fails()
     }

@@ -2,8 +2,10 @@
 
 ghost use Rattle.std.specs.Prelude.{◌≡◌, ◌≤◌, ◌<◌, ◌*◌, ℕ, [], false, not, length, slice_index_or};
 ghost use Rattle.disk.specs.FileDisks.{IsNextRun};
+ghost use Rattle.disk.specs.Disk.{sector_bytes};
 
 use crate::image::Image;
+use crate::{SECTOR_BYTES, Sector};
 use std::fs::OpenFile;
 use std::io;
 use std::os::unix::fs::FileExt;
@@ -58,7 +60,7 @@ const PIECE: u32 = 128;
 
 /// Writes `count` sectors of zeros to the file, from its beginning.
 pub fn reserve<F: FileExt>(file: &F, count: u32) -> io::Result<()> {
-    let zeros = [[0; 512]; PIECE as usize];
+    let zeros = [[0; SECTOR_BYTES]; PIECE as usize];
     for piece in 0..count / PIECE {
         store_run(file, &zeros, piece * PIECE)?;
     }
@@ -67,7 +69,7 @@ pub fn reserve<F: FileExt>(file: &F, count: u32) -> io::Result<()> {
 }
 
 /// Writes adjacent sectors by one system call, and makes no call if there are none.
-fn store_run<F: FileExt>(file: &F, sectors: &[[u8; 512]], first: u32) -> io::Result<()> {
+fn store_run<F: FileExt>(file: &F, sectors: &[Sector], first: u32) -> io::Result<()> {
     if sectors.is_empty() {
         return Ok(());
     }
@@ -75,7 +77,7 @@ fn store_run<F: FileExt>(file: &F, sectors: &[[u8; 512]], first: u32) -> io::Res
 }
 
 /// Stores the dirty sectors of a disk without a device: copies them to `synced`.
-pub fn copy_dirty(synced: &mut [[u8; 512]], image: &Image) -> Stored
+pub fn copy_dirty(synced: &mut [Sector], image: &Image) -> Stored
     requires each { length synced.old ≡ length image.now.sectors.items }
     requires in_sync { (n : ℕ) → slice_index_or image.now.dirty.items n false ≡ false →
         slice_index_or synced.old n [] ≡ slice_index_or image.now.sectors.items n [] }
@@ -120,7 +122,7 @@ fn next_run(dirty: &[bool], from: usize, end: usize) -> (usize, usize)
 /// Returns the offset of a sector in a file, in bytes. For the number of sectors, this is the
 /// file's size.
 pub fn offset(n: u32) -> u64
-    ensures { result ≡ n * 512 }
+    ensures { result ≡ n * sector_bytes }
 {
-    u64::from(n) * 512
+    u64::from(n) * SECTOR_BYTES as u64
 }

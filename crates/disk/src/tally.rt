@@ -7,25 +7,25 @@ use std::marker::Model;
 /// The number of failures of a device. The count is unbounded, so no machine integer can hold it,
 /// and it exists only in proofs.
 #[derive(Drop)]
-pub struct Tally {
+pub struct FailureCount {
     pub ghost count: { ℕ },
 }
 
 // It owns no memory.
-impl Model for Tally {
+impl Model for FailureCount {
     ghost also_owns = { λ _. ftrue };
 }
 
-impl Tally {
-    pub fn new() -> Tally
+impl FailureCount {
+    pub fn new() -> FailureCount
         ensures { result.count ≡ 0 }
     {
-        Tally {}
+        FailureCount {}
     }
 
-    pub fn and_one(&self) -> Tally
+    pub fn and_one(&self) -> FailureCount
         ensures { result.count ≡ self.now.count + 1 }
     {
-        Tally {}
+        FailureCount {}
     }
 }

@@ -10,6 +10,7 @@ use Rattle.upkeep.specs.Verified.{IsOfWorld}
 use Rattle.upkeep.specs.declared.verifying.Verified.{Verified}
 use Rattle.views.specs.Reading.{IsBelieved, IsFrontOn, IsOn}
 use Rattle.views.specs.Views.{Describes}
+use Rattle.disk.specs.Disk.{zero_sector}
 
 -- The number of sectors of a new disk, and the time from which it goes on, with the number of events
 -- before it.
@@ -33,13 +34,13 @@ pub record IsNewSegment {M : Type 0} (meaning : M → Meaning) (says : Describes
 -- the sectors from this number on have only zeros
 abbrev pub IsZeroFrom : ℕ → List (List ℕ) → Type 0
 IsZeroFrom first image = (n : ℕ) → first ≤ n → n < length image →
-    slice_index_or image n [] ≡ replicate 512 0
+    slice_index_or image n [] ≡ zero_sector
 
 -- A disk with neither a log nor anything else: the gate of its header, that of the first record and
 -- all sectors after it have only zeros.
 pub record IsUnused (image : List (List ℕ)) : Type 0 where
-  pub header : slice_index_or image 0 [] ≡ replicate 512 0
-  pub first : slice_index_or image 2 [] ≡ replicate 512 0
+  pub header : slice_index_or image 0 [] ≡ zero_sector
+  pub first : slice_index_or image 2 [] ≡ zero_sector
   pub rest : IsZeroFrom 3 image
 
 -- the time and the number of events of the world that a reopened disk represents

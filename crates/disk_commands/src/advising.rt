@@ -4,7 +4,7 @@ use crate::fault::Fault;
 use cli::{Command, ModelFile, RunArgs, most_sectors};
 use commitlog::LogFault;
 use coordinator::SessionFault;
-use disk::{GrowthFault, SystemError};
+use disk::{GrowthFault, SECTOR_BYTES, SystemError};
 use judging::ReportDifference;
 use node_programs::{Apart, Call, CallEnd};
 use recovery::RecoveryFault;
@@ -15,7 +15,7 @@ use std::rt::Files;
 use terminal::{
     Cause, FileRefusal, Progress, Unmet, cause_of, cause_of_device, cause_of_kept, cause_of_refusal,
 };
-use texts::{Described, Printable, Report, SettingFault};
+use texts::{Described, MistakeReport, Printable, SettingFault};
 use upkeep::migration::MigrateFault;
 use views::{apart_of, committed_on, difference_of, keeper_of, mistakes_of, model_path};
 use wire::{PortFault, WireFault};
@@ -417,7 +417,7 @@ where
     let Ok(path) = model_path(rt, model) else {
         return false;
     };
-    let report = Report {
+    let report = MistakeReport {
         path: path.as_str(),
         text: wrong.text.as_slice(),
         mistakes: &wrong.mistakes,
@@ -436,7 +436,7 @@ where
         return false;
     };
     let sectors = match fs::metadata(rt, disk) {
-        Ok(found) => found.len() / 512,
+        Ok(found) => found.len() / SECTOR_BYTES as u64,
         Err(_) => 0,
     };
     if sectors < u64::from(most_sectors(paths.large)) {

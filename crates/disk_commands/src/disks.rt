@@ -3,7 +3,7 @@
 ghost use Rattle.std.specs.Prelude.{◌≡◌, ◌⊎◌, ◌++◌, [], length, replicate, slice_index_or, true};
 ghost use Rattle.std.specs.Prelude.{false, IfOk, IfSome, IsOkUnless, OnErr, OnOk};
 ghost use Rattle.commitlog.specs.Records.{is_open, IsBlank};
-ghost use Rattle.disk.specs.Disk.{OnlyLooks};
+ghost use Rattle.disk.specs.Disk.{OnlyLooks, zero_sector};
 ghost use Rattle.disk.specs.FileDisks.{disk_of_file};
 ghost use Rattle.disk_commands.specs.Disks.{grown_text, reopened_text, IsGrown, IsReopenedText};
 ghost use Rattle.disk_commands.specs.Disks.{IsUnused, IsZeroFrom};
@@ -20,7 +20,7 @@ use cli::{DiskArgs, GrowArgs, most_sectors};
 use commitlog::LogFault;
 use disk::{
     DiskFault, FileDisk, FileError, FileFault, GrowingDisk, MOST_SECTORS, Returned, Room,
-    SectorDisk,
+    SECTOR_BYTES, Sector, SectorDisk,
 };
 use model::Continued;
 use std::alloc::Global;
@@ -148,7 +148,7 @@ where
     };
     // another program may have had it until now
     if file.try_lock().is_ok() && file.metadata().is_ok_and(is_empty) {
-        let _ = file.set_len(u64::from(sectors) * 512);
+        let _ = file.set_len(u64::from(sectors) * SECTOR_BYTES as u64);
     }
 }
 
@@ -203,7 +203,7 @@ pub(crate) fn is_formatted(disk: &mut FileDisk) -> Result<bool, DiskFault>
     ensures is { IfOk result (λ is. is ≡ is_open (slice_index_or disk.old.reads 0 [])) }
     ensures looks { OnlyLooks (disk_of_file disk.old) (disk_of_file disk.new) }
 {
-    let mut gate = [0; 512];
+    let mut gate = [0; SECTOR_BYTES];
     disk.read(0, &mut gate)?;
     Ok(gate[0] == 1)
 }
@@ -240,24 +240,24 @@ fn held_behind(disk: &mut FileDisk) -> Held
 }
 
 /// Returns a sector of a disk; zeros if it is not there.
-fn sector_on(disk: &mut FileDisk, number: u32) -> [u8; 512]
+fn sector_on(disk: &mut FileDisk, number: u32) -> Sector
     ensures looks { OnlyLooks (disk_of_file disk.old) (disk_of_file disk.new) }
 {
-    let mut sector = [0; 512];
+    let mut sector = [0; SECTOR_BYTES];
     let _read = disk.read(number, &mut sector);
     sector
 }
 
 /// Whether a sector has all the bytes of an open gate, as a log writes it.
-fn is_open_gate(sector: &[u8; 512]) -> bool {
-    let mut gate = [0; 512];
+fn is_open_gate(sector: &Sector) -> bool {
+    let mut gate = [0; SECTOR_BYTES];
     gate[0] = 1;
     *sector == gate
 }
 
 /// Whether a sector may be the first one of a record: it has one of the five kinds, and a length of at
 /// most 2^24 bytes.
-fn begins_record(sector: &[u8; 512]) -> bool {
+fn begins_record(sector: &Sector) -> bool {
     (1..=5).contains(&sector[0]) && sector[1] <= 1
 }
 
@@ -295,12 +295,12 @@ fn refuse_data(disk: &mut FileDisk) -> Result<(), Fault>
 /// Whether a sector has only zeros.
 pub(crate) fn is_zero_at(disk: &mut FileDisk, number: u32) -> Result<bool, DiskFault>
     ensures is { IfOk result (λ is. is ≡ true →
-        slice_index_or disk.old.reads number [] ≡ replicate 512 0) }
+        slice_index_or disk.old.reads number [] ≡ zero_sector) }
     ensures looks { OnlyLooks (disk_of_file disk.old) (disk_of_file disk.new) }
 {
-    let mut sector = [1; 512];
+    let mut sector = [1; SECTOR_BYTES];
     disk.read(number, &mut sector)?;
-    Ok(sector == [0; 512])
+    Ok(sector == [0; SECTOR_BYTES])
 }
 
 /// Opens the gate of the header of a disk again, and writes what the disk then represents. The origin
@@ -427,7 +427,7 @@ pub fn is_blank(disk: &mut FileDisk) -> bool
 
 /// Whether a sector is there and has only zeros.
 fn is_zero(disk: &mut FileDisk, number: u32) -> bool
-    ensures is { result ≡ true → slice_index_or disk.old.reads number [] ≡ replicate 512 0 }
+    ensures is { result ≡ true → slice_index_or disk.old.reads number [] ≡ zero_sector }
     ensures looks { OnlyLooks (disk_of_file disk.old) (disk_of_file disk.new) }
 {
     match is_zero_at(disk, number) {

@@ -17,6 +17,11 @@ use Rattle.frames.specs.declared.Frame.{Frame}
 use Rattle.frames.specs.declared.Frame.TheVariants as frame
 use Rattle.frames.specs.declared.FrameKind.{FrameKind}
 use Rattle.frames.specs.declared.FrameKind.TheVariants as kind
+use Rattle.node.specs.Node.{most_nodes}
+
+-- the most bytes of the body of a frame
+abbrev pub most_body_bytes : ℕ
+most_body_bytes = 2 ^ 24
 
 -- 1. Encodings
 
@@ -85,7 +90,7 @@ low_at bytes = do
 abbrev pub is_place : ℕ → ℕ → ℕ → ℕ → Bool
 is_place node nodes end floor =
     nat_lt node nodes
-    && (nat_le nodes 64 && (nat_le 1 end && (nat_le end (2 ^ 40) && nat_le floor end)))
+    && (nat_le nodes most_nodes && (nat_le 1 end && (nat_le end (2 ^ 40) && nat_le floor end)))
 
 unfoldable pub load_in : List ℕ → Option Load
 load_in bytes = do

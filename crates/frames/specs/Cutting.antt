@@ -4,7 +4,7 @@ use Rattle.std.specs.Prelude.{ℕ, ◌^◌, nat_lt, nat_le, nat_eq, ◌&&◌, if
 use Rattle.std.specs.Prelude.{List, [], ◌∷◌, take, drop, length}
 use Rattle.std.specs.Prelude.{Option, Some, None, Result, Ok, Err}
 use Rattle.eventkey.specs.Reading.{◌>>=◌, number_at}
-use Rattle.frames.specs.Bodies.{frame_in, kind_of}
+use Rattle.frames.specs.Bodies.{frame_in, kind_of, most_body_bytes}
 use Rattle.frames.specs.declared.Frame.{Frame}
 use Rattle.frames.specs.declared.FrameKind.{FrameKind}
 use Rattle.frames.specs.declared.stream.Raw.{Raw}
@@ -36,7 +36,7 @@ cut_kind n (k ∷ bytes) = cut_body n bytes (kind_of k)
 
 abbrev pub cut_length : Option (ℕ × List ℕ) → Cut Raw
 cut_length None = fails Truncated []
-cut_length (Some n) = if nat_lt (2 ^ 24) n.0 then fails TooLong n.1 else cut_kind n.0 n.1
+cut_length (Some n) = if nat_lt most_body_bytes n.0 then fails TooLong n.1 else cut_kind n.0 n.1
 
 -- the first frame, with its body not decoded
 unfoldable pub cut : List ℕ → Cut Raw
@@ -66,7 +66,7 @@ raw_in bytes = do
   size ← number_at 4 bytes
   number ← number_at 1 size.1
   kind ← kind_of number.0
-  if nat_le size.0 (2 ^ 24) && nat_eq (length number.1) size.0 then
+  if nat_le size.0 most_body_bytes && nat_eq (length number.1) size.0 then
       Some (record { kind = kind; body = number.1 })
       else None
 

@@ -13,6 +13,7 @@ use Rattle.frames.specs.Cutting.{Cut, fails}
 use Rattle.frames.specs.declared.greeting.Hello.{Hello}
 use Rattle.wire.specs.declared.port.WireFault.{WireFault}
 use Rattle.wire.specs.declared.port.WireFault.TheVariants.{BadBody, BadKind, TooLong, Truncated}
+use Rattle.frames.specs.Bodies.{most_body_bytes}
 
 -- 1. What it says
 
@@ -62,7 +63,7 @@ hello_in bytes = do
 -- its kind
 abbrev pub hello_kind : ℕ → List ℕ → Option (ℕ × List ℕ)
 hello_kind n [] = None
-hello_kind n (k ∷ bytes) = if nat_eq k 16 && nat_le n (2 ^ 24) then Some (n, bytes) else None
+hello_kind n (k ∷ bytes) = if nat_eq k 16 && nat_le n most_body_bytes then Some (n, bytes) else None
 
 abbrev pub hello_behind : Option (ℕ × List ℕ) → Option (ℕ × List ℕ)
 hello_behind None = None
@@ -86,7 +87,7 @@ abbrev pub no_hello : List ℕ → Result (Option Hello) WireFault
 no_hello bytes =
     if nat_eq (length bytes) 0 then Ok None
     else if nat_lt (length bytes) 5 then Err Truncated
-    else if nat_lt (2 ^ 24) (big_number 4 bytes) then Err TooLong else Err BadKind
+    else if nat_lt most_body_bytes (big_number 4 bytes) then Err TooLong else Err BadKind
 
 abbrev pub hello_at : List ℕ → Option (ℕ × List ℕ) → Cut Hello
 hello_at bytes (Some n) = hello_body n.0 n.1

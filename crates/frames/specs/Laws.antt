@@ -1,7 +1,7 @@
 -- The laws of frames, stated over definitions alone.
 use Rattle.std.specs.Prelude.{◌≡◌, ◌≤◌, ◌^◌, List, ℕ, ◌∷◌, ◌++◌, length, Ok, None, Some}
 use Rattle.eventkey.specs.Reading.{IsBytes}
-use Rattle.frames.specs.Bodies.{body_bytes, frame_bytes, frame_in, kind_in}
+use Rattle.frames.specs.Bodies.{body_bytes, frame_bytes, frame_in, kind_in, most_body_bytes}
 use Rattle.frames.specs.Cutting.{frame_cut, whole_in}
 use Rattle.frames.specs.Ranges.{IsInRange}
 use Rattle.frames.specs.Streams.{Finds}
@@ -10,19 +10,19 @@ use Rattle.frames.specs.declared.FrameKind.{FrameKind}
 
 -- what is written is read back, whatever follows
 abbrev pub FramesAreReadBack : Type 0
-FramesAreReadBack = (f : Frame) (rest : List ℕ) → IsInRange f → length (body_bytes f) ≤ 2 ^ 24 →
+FramesAreReadBack = (f : Frame) (rest : List ℕ) → IsInRange f → length (body_bytes f) ≤ most_body_bytes →
     Finds (frame_cut (frame_bytes f ++ rest)) (Ok (Some f)) rest
 
 -- the same for bytes that are one frame and nothing more
 abbrev pub FramesAreReadWhole : Type 0
 FramesAreReadWhole =
-    (f : Frame) → IsInRange f → length (body_bytes f) ≤ 2 ^ 24 → whole_in (frame_bytes f) ≡ Some f
+    (f : Frame) → IsInRange f → length (body_bytes f) ≤ most_body_bytes → whole_in (frame_bytes f) ≡ Some f
 
 -- a frame that was read: the bytes begin with its encoding, it is in range, and its body fits
 pub record IsEncoded (bytes : List ℕ) (f : Frame) (rest : List ℕ) : Type 0 where
   pub encoded : bytes ≡ frame_bytes f ++ rest
   pub in_range : IsInRange f
-  pub fits : length (body_bytes f) ≤ 2 ^ 24
+  pub fits : length (body_bytes f) ≤ most_body_bytes
 
 abbrev pub FramesAreCanonical : Type 0
 FramesAreCanonical = (bytes rest : List ℕ) (f : Frame) → IsBytes bytes →

@@ -11,6 +11,7 @@ use Rattle.node.specs.declared.Reply.{Reply}
 use Rattle.process.specs.Reports.{IsDone}
 use Rattle.frames.specs.declared.Frame.{Frame}
 use Rattle.frames.specs.declared.Frame.TheVariants as frame
+use Rattle.node.specs.Node.{most_nodes}
 
 pub record IsPart (p : Part) : Type 0 where
   pub lp : p.lp < 2 ^ 32
@@ -21,7 +22,7 @@ pub record IsPart (p : Part) : Type 0 where
 
 pub record IsLoad (l : Load) : Type 0 where
   pub node : l.node < l.nodes
-  pub nodes : l.nodes ≤ 64
+  pub nodes : l.nodes ≤ most_nodes
   pub some : 1 ≤ l.end
   pub end : l.end ≤ 2 ^ 40
   pub floor : l.floor ≤ l.end

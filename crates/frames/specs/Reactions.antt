@@ -9,7 +9,7 @@ use Rattle.node.specs.declared.NodeFault.{NodeFault}
 use Rattle.node.specs.declared.NodeFault.TheVariants as node
 use Rattle.node.specs.declared.Parcel.{Parcel}
 use Rattle.node.specs.declared.Reply.{Reply}
-use Rattle.frames.specs.Bodies.{frame_bytes, load_in, parcel_in, reply_bytes}
+use Rattle.frames.specs.Bodies.{frame_bytes, load_in, parcel_in, reply_bytes, most_body_bytes}
 use Rattle.frames.specs.Ranges.{IsReply}
 use Rattle.frames.specs.declared.Frame.TheVariants as frame
 use Rattle.frames.specs.declared.FrameKind.{FrameKind}
@@ -45,7 +45,7 @@ answer_at lacks m n parcel =
 -- refusal is written, and ends the loop.
 abbrev pub response_to : Result Reply NodeFault → Result Response WireFault
 response_to (Ok reply) =
-    if nat_lt (2 ^ 24) (length (reply_bytes reply)) then Err TooLong
+    if nat_lt most_body_bytes (length (reply_bytes reply)) then Err TooLong
     else Ok (record { frame = frame_bytes (frame.Reply reply); goes_on = true })
 response_to (Err fault) = Ok (record { frame = frame_bytes (frame.Fault fault); goes_on = false })
 

@@ -2,7 +2,7 @@
 
 ghost use Rattle.std.specs.Io.KnownBytes.{Appends};
 ghost use Rattle.std.specs.Prelude.{◌≡◌, ◌≤◌, ◌^◌, true, IfErr, IfOk, OnErr, OnOk, length};
-ghost use Rattle.frames.specs.Bodies.{frame_bytes, load_bytes, parcel_bytes};
+ghost use Rattle.frames.specs.Bodies.{frame_bytes, load_bytes, parcel_bytes, most_body_bytes};
 ghost use Rattle.frames.specs.Streams.{OnBytes};
 ghost use Rattle.frames.specs.declared.Frame.TheVariants as frame;
 ghost use Rattle.node.specs.declared.Parcel.{Parcel};
@@ -95,7 +95,7 @@ impl<S: Read + Write> Port for SocketPort<S> {
             IfErr result (λ fault. IsLoadFault load (state_of self.old.held) fault) }
         ensures written { OnOk result (Appends (S.contents self.old.stream)
             (S.contents self.new.stream) (frame_bytes (frame.Load load))) }
-        ensures fits { OnOk result (length (load_bytes load) ≤ 2 ^ 24) }
+        ensures fits { OnOk result (length (load_bytes load) ≤ most_body_bytes) }
         ensures cause { IfErr result (IsSendCause (length (load_bytes load))) }
     {
         self.held = Held::Ended;
@@ -123,7 +123,7 @@ impl<S: Read + Write> Port for SocketPort<S> {
             IfErr result (λ fault. IsResourceFault (state_of self.old.held) fault) }
         ensures written { OnOk result (Appends (S.contents self.old.stream)
             (S.contents self.new.stream) (frame_bytes (frame.Parcel parcel))) }
-        ensures fits { OnOk result (length (parcel_bytes parcel) ≤ 2 ^ 24) }
+        ensures fits { OnOk result (length (parcel_bytes parcel) ≤ most_body_bytes) }
         ensures cause { IfErr result (IsSendCause (length (parcel_bytes parcel))) }
     {
         self.held = Held::Ended;

@@ -8,6 +8,7 @@ ghost use Rattle.node.specs.Handling.{IsInRange, IsReplyInRange};
 ghost use Rattle.wire.specs.Port.{IsLoadInRange};
 ghost use Rattle.frames.specs.Bodies.{load_bytes, parcel_bytes, part_bytes, reply_bytes};
 ghost use Rattle.frames.specs.Ranges.{IsLoad, IsParcel, IsPart, IsReply};
+ghost use Rattle.frames.specs.Bodies.{most_body_bytes};
 
 use eventkey::{Message, Signed};
 use model::ranged;
@@ -33,7 +34,7 @@ fn signed_ranged(list: &[Signed])
 
 /// A part of a load that a node accepts is in range if it fits a frame.
 fn part_ranged(part: &Part)
-    ensures { IsInRange part.now → length (part_bytes part.now) ≤ 2 ^ 24 → IsPart part.now }
+    ensures { IsInRange part.now → length (part_bytes part.now) ≤ most_body_bytes → IsPart part.now }
 {
     let _lp = part.lp;
     ranged(part.words.as_slice());
@@ -42,7 +43,7 @@ fn part_ranged(part: &Part)
 
 /// The same for the parts of a load.
 fn parts_ranged(parts: &[Part])
-    ensures { Every (λ p. IsInRange p → length (part_bytes p) ≤ 2 ^ 24 → IsPart p) parts.now }
+    ensures { Every (λ p. IsInRange p → length (part_bytes p) ≤ most_body_bytes → IsPart p) parts.now }
 {
     for part in parts {
         part_ranged(part);
@@ -51,14 +52,14 @@ fn parts_ranged(parts: &[Part])
 
 /// A load that a node accepts is in range if it fits a frame.
 pub(crate) fn load_ranged(load: &Load)
-    ensures { IsLoadInRange load.now → length (load_bytes load.now) ≤ 2 ^ 24 → IsLoad load.now }
+    ensures { IsLoadInRange load.now → length (load_bytes load.now) ≤ most_body_bytes → IsLoad load.now }
 {
     parts_ranged(load.parts.as_slice());
 }
 
 /// A parcel with a floor of at most 2^40 ticks is in range if it fits a frame.
 pub(crate) fn parcel_ranged(parcel: &Parcel)
-    ensures { parcel.now.floor ≤ 2 ^ 40 → length (parcel_bytes parcel.now) ≤ 2 ^ 24 →
+    ensures { parcel.now.floor ≤ 2 ^ 40 → length (parcel_bytes parcel.now) ≤ most_body_bytes →
         IsParcel parcel.now }
 {
     let _budget = parcel.budget;
@@ -67,7 +68,7 @@ pub(crate) fn parcel_ranged(parcel: &Parcel)
 
 /// A reply that a node returns is in range if it fits a frame.
 pub(crate) fn reply_ranged(reply: &Reply)
-    ensures { IsReplyInRange reply.now → length (reply_bytes reply.now) ≤ 2 ^ 24 →
+    ensures { IsReplyInRange reply.now → length (reply_bytes reply.now) ≤ most_body_bytes →
         IsReply reply.now }
 {
     let _ran = reply.ran;

@@ -6,7 +6,7 @@ use Rattle.node.specs.declared.Load.{Load}
 use Rattle.node.specs.declared.NodeFault.TheVariants as node
 use Rattle.node.specs.declared.Parcel.{Parcel}
 use Rattle.node.specs.declared.Reply.{Reply}
-use Rattle.frames.specs.Bodies.{load_bytes, parcel_bytes, reply_bytes}
+use Rattle.frames.specs.Bodies.{load_bytes, parcel_bytes, reply_bytes, most_body_bytes}
 use Rattle.frames.specs.declared.Frame.{Frame}
 use Rattle.frames.specs.declared.Frame.TheVariants as frame
 use Rattle.wire.specs.declared.port.PortFault.{PortFault}
@@ -18,7 +18,7 @@ use Rattle.wire.specs.declared.port.WireFault.TheVariants as wire
 -- A load: its bytes are too many, the allocation of a frame failed, or the node refuses it. The
 -- node's own allocation can fail only if it does not refuse the load.
 abbrev pub IsLoadCause : ℕ → Load → PortFault → Type 0
-IsLoadCause lps load (Wire wire.TooLong) = 2 ^ 24 < length (load_bytes load)
+IsLoadCause lps load (Wire wire.TooLong) = most_body_bytes < length (load_bytes load)
 IsLoadCause lps load (Wire wire.NoMemory) = Unit {0}
 IsLoadCause lps load (Peer n) =
     (load_refusal lps load ≡ Some n) ⊎ ((load_refusal lps load ≡ None) × (n ≡ node.NoMemory))
@@ -26,7 +26,7 @@ IsLoadCause lps load fault = ⊥
 
 -- a parcel: its bytes are too many, or an allocation failed
 abbrev pub IsPostCause : Parcel → PortFault → Type 0
-IsPostCause parcel (Wire wire.TooLong) = 2 ^ 24 < length (parcel_bytes parcel)
+IsPostCause parcel (Wire wire.TooLong) = most_body_bytes < length (parcel_bytes parcel)
 IsPostCause parcel (Wire wire.NoMemory) = Unit {0}
 IsPostCause parcel fault = ⊥
 
@@ -34,7 +34,7 @@ IsPostCause parcel fault = ⊥
 pub record IsLongReply (m : Meaning) (n : Node) (parcel : Parcel) : Type 0 where
   pub reply : Reply
   pub is : (answer m n parcel).result ≡ Ok reply
-  pub long : 2 ^ 24 < length (reply_bytes reply)
+  pub long : most_body_bytes < length (reply_bytes reply)
 
 abbrev pub IsTakeCause : Meaning → Node → Parcel → PortFault → Type 0
 IsTakeCause m n parcel (Wire wire.TooLong) = IsLongReply m n parcel

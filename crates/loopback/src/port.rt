@@ -1,7 +1,7 @@
 // A port to a node behind bytes in memory.
 
 ghost use Rattle.std.specs.Prelude.{◌≡◌, true, IfErr, IfOk, OnErr, OnOk, length, ◌≤◌, ◌^◌};
-ghost use Rattle.frames.specs.Bodies.{load_bytes, parcel_bytes, reply_bytes};
+ghost use Rattle.frames.specs.Bodies.{load_bytes, parcel_bytes, reply_bytes, most_body_bytes};
 ghost use Rattle.loopback.specs.Passing.{IsLoadCause, IsPostCause, IsTakeCause};
 ghost use Rattle.node.specs.declared.Parcel.{Parcel};
 ghost use Rattle.wire.specs.Port.{IsResourceFault, IsLoadFault, IsLoadInRange, IsLoaded, IsSamePort};
@@ -94,7 +94,7 @@ impl<'m, M: Simulated> Port for LoopPort<'m, M> {
 
         // `TooLong` comes only if the body is too long, and `Ok` only if it is not. The other
         // causes are the node's refusal and a failed allocation.
-        ensures fits { OnOk result (length (load_bytes load) ≤ 2 ^ 24) }
+        ensures fits { OnOk result (length (load_bytes load) ≤ most_body_bytes) }
         ensures cause { IfErr result (IsLoadCause (M.meaning self.old.model).lps load) }
     {
         match loaded(self.alloc, self.model, &load) {
@@ -122,7 +122,7 @@ impl<'m, M: Simulated> Port for LoopPort<'m, M> {
 
         // `TooLong` comes only if the body is too long, and `Ok` only if it is not. The other cause
         // is a failed allocation.
-        ensures fits { OnOk result (length (parcel_bytes parcel) ≤ 2 ^ 24) }
+        ensures fits { OnOk result (length (parcel_bytes parcel) ≤ most_body_bytes) }
         ensures cause { IfErr result (IsPostCause parcel) }
     {
         let Held::Idle(node) = std::mem::replace(&mut self.held, Held::Ended) else {
@@ -154,7 +154,7 @@ impl<'m, M: Simulated> Port for LoopPort<'m, M> {
 
         // `TooLong` comes only if the reply's body is too long, and `Ok` only if it is not. The
         // other causes are the node's refusal and a failed allocation.
-        ensures fits { IfOk result (λ reply. length (reply_bytes reply) ≤ 2 ^ 24) }
+        ensures fits { IfOk result (λ reply. length (reply_bytes reply) ≤ most_body_bytes) }
         ensures cause { (parcel : Parcel) →
             (state_by M.meaning self.old).stage ≡ AtWork parcel → IfErr result
             (IsTakeCause (M.meaning self.old.model) (state_by M.meaning self.old).node parcel) }

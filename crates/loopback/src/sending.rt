@@ -1,7 +1,7 @@
 // Passes frames to a node and back.
 
 ghost use Rattle.std.specs.Prelude.{◌≡◌, ◌≤◌, ◌^◌, [], Some, IfErr, IfOk, OnOk, false, length};
-ghost use Rattle.frames.specs.Bodies.{frame_in, load_bytes, reply_bytes};
+ghost use Rattle.frames.specs.Bodies.{frame_in, load_bytes, reply_bytes, most_body_bytes};
 ghost use Rattle.frames.specs.Laws.{IsEncoded};
 ghost use Rattle.frames.specs.declared.Frame.{Frame};
 ghost use Rattle.frames.specs.declared.Frame.TheVariants as frame;
@@ -55,7 +55,7 @@ fn replied(alloc: Global, bytes: &[u8]) -> Result<Reply, PortFault>
 pub(crate) fn loaded<M: Simulated>(alloc: Global, model: &M, load: &Load) -> Result<Node, PortFault>
     requires { IsLoadInRange load.now }
     ensures ok { IfOk result (λ n. IsMade (M.meaning model.now).lps load.now n) }
-    ensures fits { OnOk result (length (load_bytes load.now) ≤ 2 ^ 24) }
+    ensures fits { OnOk result (length (load_bytes load.now) ≤ most_body_bytes) }
     ensures err { IfErr result (λ fault. IsLoadCause (M.meaning model.now).lps load.now fault) }
 {
     let frame = match encode_load(alloc, load) {
@@ -84,7 +84,7 @@ pub(crate) fn handled<M: Simulated>(
     ensures ok { (p : Parcel) → IsEncoded parcel.now (frame.Parcel p) [] →
         IfOk result (λ reply. IsReplyBy (answer (M.meaning model.now) node.old p) node.new reply) }
     ensures fits { (p : Parcel) → IsEncoded parcel.now (frame.Parcel p) [] →
-        IfOk result (λ reply. length (reply_bytes reply) ≤ 2 ^ 24) }
+        IfOk result (λ reply. length (reply_bytes reply) ≤ most_body_bytes) }
     ensures err { (p : Parcel) → IsEncoded parcel.now (frame.Parcel p) [] →
         IfErr result (λ fault. IsTakeCause (M.meaning model.now) node.old p fault) }
     ensures lps { node.new.spent ≡ false → (M.meaning model.now).lps ≡ node.new.lps }

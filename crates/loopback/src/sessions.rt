@@ -9,6 +9,7 @@ ghost use Rattle.coordinator.specs.Steps.{move_of};
 ghost use Rattle.loopback.specs.Loop.{state_of};
 ghost use Rattle.loopback.specs.declared.port.Held.TheVariants.{Fresh};
 ghost use Rattle.model.specs.World.{World};
+ghost use Rattle.node.specs.Node.{most_nodes};
 
 use crate::ports::loop_ports;
 use coordinator::{Resumed, Step, resume};
@@ -31,7 +32,7 @@ pub fn resume_behind_bytes<M: Simulated, D: SectorDisk + Drop>(
     steps: &[Step],
 ) -> Result<Resumed<D>, D>
     requires some { 1 ≤ nodes }
-    requires few { nodes ≤ 64 }
+    requires few { nodes ≤ most_nodes }
     requires begun { 1 ≤ end }
     requires short { end ≤ 2 ^ 40 }
 

@@ -13,6 +13,10 @@ pub use Rattle.queues.specs.Queue.{first_time}
 use Rattle.node.specs.declared.Parcel.{Parcel}
 use Rattle.node.specs.declared.Reply.{Reply}
 
+-- the most nodes of a run
+abbrev pub most_nodes : ℕ
+most_nodes = 64
+
 -- the least time of the waiting messages and antimessages of these processes
 abbrev pub low_of : List Process → Option ℕ
 low_of qs = first_time (flat_map (λ (q : Process). q.waiting ++ q.antis) qs)

@@ -33,6 +33,9 @@ pub struct Part {
     pub pending: Listed<Message>,
 }
 
+/// The maximum number of nodes of a run.
+pub const MOST_NODES: u32 = 64;
+
 /// The data from which a node is loaded.
 #[derive(Drop)]
 pub struct Load {

@@ -8,6 +8,7 @@ ghost use Rattle.node.specs.Handling.{IsInRange, own_lps};
 ghost use Rattle.node.specs.Kept.{HasHistories};
 ghost use Rattle.node.specs.Seats.{seat_of, standings_of};
 ghost use Rattle.node.specs.declared.NodeFault.TheVariants.{NoMemory, NumberLimit};
+ghost use Rattle.node.specs.Node.{most_nodes};
 
 use crate::roster::Roster;
 use crate::summary::Summary;
@@ -60,7 +61,7 @@ impl Node {
     /// message is pending before the floor; and with `NoMemory` only if an allocation fails.
     pub fn load<M: Simulated>(alloc: Global, model: &M, load: Load) -> Result<Node, NodeFault>
         requires node { load.node < load.nodes }
-        requires nodes { load.nodes ≤ 64 }
+        requires nodes { load.nodes ≤ most_nodes }
         requires end { load.end ≤ 2 ^ 40 }
         requires parts { Every IsInRange load.parts }
         ensures loaded { IsLoaded (M.meaning model.now).lps load result }
@@ -149,7 +150,7 @@ impl Node {
 /// Returns whether these are the parts of the node's processes, ascending.
 fn are_own(parts: &[Part], node: u32, nodes: u32, lps: u32) -> bool
     requires node { node < nodes }
-    requires nodes { nodes ≤ 64 }
+    requires nodes { nodes ≤ most_nodes }
     requires lps { lps ≤ most_lps }
     ensures { IsTrue result ↔ (map (λ p. p.lp) parts.now ≡ own_lps nodes node lps) }
 {

@@ -1,5 +1,6 @@
 // The processors on which this program may run, for node programs that have one each.
 
+use node::MOST_NODES;
 use std::alloc::{AllocError, Global};
 use std::fs::{self, File};
 use std::io::{self, Error as IoError, ErrorKind};
@@ -7,7 +8,7 @@ use std::process::Command;
 use std::rt::Files;
 
 /// The maximum number of processors that are listed: a run has at most this many nodes.
-const MOST: usize = 64;
+const MOST: usize = MOST_NODES as usize;
 
 /// The processors on which the system lets this program run, at most 64 of them.
 ///

@@ -14,7 +14,7 @@ use Rattle.pictures.specs.Run.{Run}
 use Rattle.pictures.specs.declared.drawn.Frame.{Frame}
 use Rattle.pictures.specs.declared.drawn.View.{View}
 use Rattle.pictures.specs.declared.drawn.TheConstants.{STYLE, TAIL}
-use Rattle.pictures.specs.declared.loads.Load.{Load}
+use Rattle.pictures.specs.declared.loads.LoadMap.{LoadMap}
 
 -- 1. One more event
 
@@ -108,7 +108,7 @@ rows_same a b slices (suc n) same =
     ap (λ m. max m (most_in_row (a n) slices)) (rows_same a b slices n (λ row slice l few. same row slice (omega arith) few))
     ∙ ap (max (most_in_rows b slices n)) (row_same (a n) (b n) slices (λ slice few. same n slice (omega arith) few))
 
-pub load_is : (r : Run) (v : View) (l : Load) (f : Frame) (processes most : ℕ) → IsLoad r v l → f ≡ frame_of r v → processes ≡ length r.first → most ≡ most_in_rows (cell_at l.cells.items) (slices_of f) f.rows
+pub load_is : (r : Run) (v : View) (l : LoadMap) (f : Frame) (processes most : ℕ) → IsLoad r v l → f ≡ frame_of r v → processes ≡ length r.first → most ≡ most_in_rows (cell_at l.cells.items) (slices_of f) f.rows
     → map_text processes (cell_at l.cells.items) f most ≡ load_text r v
 load_is r v l f processes most is frame processes_are most_is =
     let g : Frame = frame_of r v in

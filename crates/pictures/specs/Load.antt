@@ -11,7 +11,7 @@ use Rattle.pictures.specs.Run.{Run}
 use Rattle.pictures.specs.declared.drawn.Frame.{Frame}
 use Rattle.pictures.specs.declared.drawn.View.{View}
 use Rattle.pictures.specs.declared.drawn.TheConstants.{STYLE, TAIL}
-use Rattle.pictures.specs.declared.loads.Load.{Load}
+use Rattle.pictures.specs.declared.loads.LoadMap.{LoadMap}
 use Rattle.pictures.specs.declared.loads.TheConstants.{CELL, LOAD_HEAD}
 
 -- the number of slices of time, at most 64
@@ -103,7 +103,7 @@ pub record IsInCell (f : Frame) (x : Message) (place : ℕ) : Type 0 where
   pub is : place ≡ 64 * (x.to - f.first) + slice_at f x.time
 
 -- the load of a run in a view
-pub record IsLoad (r : Run) (v : View) (l : Load) : Type 0 where
+pub record IsLoad (r : Run) (v : View) (l : LoadMap) : Type 0 where
   pub time : l.time ≡ r.time
   pub processes : l.processes ≡ length r.first
   pub view : l.view ≡ v

@@ -90,7 +90,8 @@ impl Marks {
 /// if an allocation failed, or at 2^64 events. The costs are the simulation, a constant time for
 /// each event, and memory for the world, for 2^16 events or as many as messages are pending, and for
 /// the diagram. Only if an event was handled before its sender sent it, which the origin of a
-/// continued model can have, the simulation begins again, and needs memory for its events.
+/// continued model can have, or if the diagram ends before one of its first 2,000 events, the
+/// simulation begins again, and needs memory for its events.
 pub fn diagram_of<M: Model>(
     alloc: Global,
     model: &M,

@@ -34,7 +34,7 @@ pub use drawn::{View, write_drawing};
 pub use dumped::write_changes;
 pub use histograms::{Bins, Word, bins_of, tally_of};
 pub use levels::Level;
-pub use loads::{Load, load_of, write_load};
+pub use loads::{LoadMap, load_of, write_load};
 pub use quotients::Decimal;
 pub use statistics::{Cell, LEVEL_NAMES, LevelRow, Statistics, WORD_NAMES, WordRow, statistics_of};
 pub use stepping::{EVENTS_AT_FIRST, EVENTS_AT_MOST, forget, next_piece, step_some};

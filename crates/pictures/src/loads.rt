@@ -40,7 +40,7 @@ const CELL: &str = "\
 
 /// The load of a run in a view: how many events each process handled in each slice of time.
 #[derive(Drop)]
-pub struct Load {
+pub struct LoadMap {
     /// The virtual time in ticks up to which the run went.
     pub(crate) time: u64,
     /// The number of processes of the model.
@@ -50,7 +50,7 @@ pub struct Load {
     pub(crate) cells: Vec<u64>,
 }
 
-impl Load {
+impl LoadMap {
     /// Returns the number of processes of the model.
     pub fn processes(&self) -> u32 {
         self.processes
@@ -73,7 +73,7 @@ pub fn load_of<M: Model>(
     to: u64,
     before: u64,
     view: &View,
-) -> Result<Load, WorldFault>
+) -> Result<LoadMap, WorldFault>
     requires some { 1 ≤ end }
     requires end { end ≤ 2 ^ 40 }
     ensures load { IfOk result (λ l. (r : Run) × IsPartBefore (M.meaning model.now) end to before r
@@ -85,7 +85,7 @@ pub fn load_of<M: Model>(
     let processes = model.lps();
     let frame = framed(time, u64::from(processes), view);
     let cells = count_cells(alloc, model, end, to.min(before), &frame)?;
-    Ok(Load {
+    Ok(LoadMap {
         time,
         processes,
         view: *view,
@@ -169,7 +169,7 @@ fn place_in(frame: &Frame, event: &Message) -> Option<usize>
 ///
 /// If the writer fails, its error is returned, and it has taken a beginning of the text. The time
 /// does not depend on the number of events, and nothing is allocated.
-pub fn write_load<W: Write>(load: &Load, out: &mut W) -> IoResult<()>
+pub fn write_load<W: Write>(load: &LoadMap, out: &mut W) -> IoResult<()>
     ensures { (r : Run) (v : View) → IsLoad r v load.now →
         Writes (W.contents out.old) (W.contents out.new) result (load_text r v) }
 {

@@ -15,6 +15,7 @@ ghost use Rattle.program.specs.Command.{IsWithoutOutput};
 ghost use Rattle.frames.specs.Socket.{state_of};
 ghost use Rattle.frames.specs.declared.port.Held.TheVariants.{Fresh};
 ghost use Rattle.views.specs.Reading.{BeginsWith};
+ghost use Rattle.node.specs.Node.{most_nodes};
 
 use crate::parts::{Archive, Tried, archived};
 use crate::plainly::attempt_plainly;
@@ -139,7 +140,7 @@ where
     P: Progress,
     O: Write,
     requires nodes { 1 ≤ args.nodes }
-    requires few { args.nodes ≤ 64 }
+    requires few { args.nodes ≤ most_nodes }
     requires some { 1 ≤ of.now.end }
     requires short { of.now.end ≤ 2 ^ 40 }
     requires sound { CanBegin (M.meaning of.now.model).lps begun.origin }
@@ -227,7 +228,7 @@ where
     P: Progress,
     O: Write,
     requires nodes { 1 ≤ args.nodes }
-    requires few { args.nodes ≤ 64 }
+    requires few { args.nodes ≤ most_nodes }
     requires some { 1 ≤ of.now.end }
     requires short { of.now.end ≤ 2 ^ 40 }
     requires sound { CanBegin (M.meaning of.now.model).lps (option_map (λ o. o.now) origin) }
@@ -266,7 +267,7 @@ where
     P: Progress,
     O: Write,
     requires nodes { 1 ≤ args.nodes }
-    requires few { args.nodes ≤ 64 }
+    requires few { args.nodes ≤ most_nodes }
     requires some { 1 ≤ of.now.end }
     requires short { of.now.end ≤ 2 ^ 40 }
     requires sound { CanBegin (M.meaning of.now.model).lps (option_map (λ o. o.now) origin) }
@@ -300,7 +301,7 @@ where
     P: Progress,
     O: Write,
     requires nodes { 1 ≤ args.nodes }
-    requires few { args.nodes ≤ 64 }
+    requires few { args.nodes ≤ most_nodes }
     requires some { 1 ≤ of.now.end }
     requires short { of.now.end ≤ 2 ^ 40 }
     ensures tried { IfOk result (λ ended. IsAttemptBy (trusts_nodes args.entry)
@@ -350,7 +351,7 @@ where
     P: Progress,
     O: Write,
     requires nodes { 1 ≤ plan.nodes }
-    requires few { plan.nodes ≤ 64 }
+    requires few { plan.nodes ≤ most_nodes }
     requires some { 1 ≤ of.now.end }
     requires short { of.now.end ≤ 2 ^ 40 }
     ensures { IsAttempt (M.meaning of.now.model) of.now.end plan.nodes (disk_of_file disk)
@@ -410,7 +411,7 @@ where
     P: Progress,
     O: Write,
     requires nodes { 1 ≤ plan.nodes }
-    requires few { plan.nodes ≤ 64 }
+    requires few { plan.nodes ≤ most_nodes }
     requires some { 1 ≤ of.now.end }
     requires short { of.now.end ≤ 2 ^ 40 }
     ensures tried { IfOk result (λ ended. IsAttemptBy (not plan.judged) (M.meaning of.now.model)
@@ -460,7 +461,7 @@ where
     P: Progress,
     O: Write,
     requires nodes { 1 ≤ plan.nodes }
-    requires few { plan.nodes ≤ 64 }
+    requires few { plan.nodes ≤ most_nodes }
     requires ports { map (λ p. state_of p.held) ports.items ≡ replicate plan.nodes
         (state_of Fresh) }
     requires some { 1 ≤ of.now.end }

@@ -6,6 +6,7 @@ ghost use Rattle.program.specs.Attempts.{judges_all};
 ghost use Rattle.program.specs.Command.{are_rounds_cheap, most_of, plan_of, schedule_of};
 ghost use Rattle.program.specs.Command.{IsRunOutput};
 ghost use Rattle.views.specs.Views.{Begins, Prints};
+ghost use Rattle.node.specs.Node.{most_nodes};
 
 use crate::attempts::{NodePrograms, archive_of, run_attempts};
 use crate::described::{WithText, simulated, simulated_with_text};
@@ -137,7 +138,7 @@ where
     P: Progress,
     O: Write,
     requires some { 1 ≤ args.nodes }
-    requires few { args.nodes ≤ 64 }
+    requires few { args.nodes ≤ most_nodes }
     ensures ok { OnOk result (Prints (IsRunOutput M.meaning M.says args.entry)
         (O.contents out.old) (O.contents out.new)) }
     ensures err { OnErr result ((out.new ≡ out.old)
@@ -214,7 +215,7 @@ where
     P: Progress,
     O: Write,
     requires some { 1 ≤ args.nodes }
-    requires few { args.nodes ≤ 64 }
+    requires few { args.nodes ≤ most_nodes }
     ensures ok { OnOk result (Prints (IsRunOutput M.meaning M.says args.entry)
         (O.contents out.old) (O.contents out.new)) }
     ensures err { OnErr result ((out.new ≡ out.old)
@@ -282,7 +283,7 @@ where
     P: Progress,
     O: Write,
     requires some { 1 ≤ args.nodes }
-    requires few { args.nodes ≤ 64 }
+    requires few { args.nodes ≤ most_nodes }
     ensures ok { OnOk result (Prints (IsRunOutput M.meaning M.says args.entry)
         (O.contents out.old) (O.contents out.new)) }
     ensures err { OnErr result ((out.new ≡ out.old)

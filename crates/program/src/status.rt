@@ -35,7 +35,7 @@ use std::process::Processes;
 use std::rt::{Env, Files};
 use std::time::Clock;
 use terminal::Progress;
-use texts::{Described, Report};
+use texts::{Described, MistakeReport};
 use views::{Look, Wrong, look_at};
 
 /// What distinguishes a program over one kind of model from another.
@@ -352,7 +352,7 @@ pub fn print_fault<E: Write>(name: &str, fault: Fault, err: &mut E) -> u8
 /// Prints all mistakes that `check` found in a model file, each beside its line.
 fn print_mistakes<E: Write>(command: Command<'_>, found: &Option<Wrong>, err: &mut E) {
     if let (Command::Check(args), Some(found)) = (command, found) {
-        let report = Report {
+        let report = MistakeReport {
             path: args.model.path,
             text: found.text.as_slice(),
             mistakes: &found.mistakes,

@@ -9,7 +9,7 @@ use Rattle.rule_files.specs.RuleFile.{Parts}
 use Rattle.rule_files.specs.Scopes.{Dictionary}
 use Rattle.rule_files.specs.Statements.{Acts, act_of, acts_of, acts_of_row}
 use Rattle.rule_files.specs.Texts.{IsForMemory, IsRule, read_at}
-use Rattle.rule_files.specs.declared.grammar.mistakes.Mistake.{Mistake}
+use Rattle.rule_files.specs.declared.grammar.mistakes.ReadMistake.{ReadMistake}
 use Rattle.rule_files.specs.declared.grammar.read.ReadError.{ReadError}
 use Rattle.rule_files.specs.declared.grammar.read.ReadError.TheVariants.{Mistaken}
 use Rattle.rule_files.proofs.Whole.{read_is, read_only}
@@ -136,7 +136,7 @@ module _ (p : Parts) (text : List ℕ) (scope : Dictionary) (e : scope ≡ dicti
   unfolding Spells
   rule_exceeds rule limit h exceeds = exceeding p text rule limit (subst (λ d. IsRule d text (acts_of rule)) e h) exceeds
 
-  pub no_rule : (err : ReadError) (mistake : Mistake) → err ≡ Mistaken mistake → ((acts : Acts) → IsRule scope text acts → IsForMemory err) → is_rule p text ≡ false
+  pub no_rule : (err : ReadError) (mistake : ReadMistake) → err ≡ Mistaken mistake → ((acts : Acts) → IsRule scope text acts → IsForMemory err) → is_rule p text ≡ false
   no_rule err mistake is only = not_spelled p text (λ acts h. subst IsForMemory is (only acts (subst (λ d. IsRule d text acts) (sym e) h)))
 
 -- 5. The rule of a kind

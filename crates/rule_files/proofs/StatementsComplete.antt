@@ -3,7 +3,7 @@ use Rattle.std.proofs.Common.{◌≡◌, ◌≤◌, ◌<◌, ℕ, zero, suc, ◌
 use Rattle.std.proofs.lemmas.Bool.Decides.{nat_tests}
 use Rattle.rule_files.specs.declared.grammar.token.Mark.{Mark}
 use Rattle.rule_files.specs.declared.grammar.token.Mark.TheVariants as m
-use Rattle.rule_files.specs.declared.grammar.token.Sort.{Sort}
+use Rattle.rule_files.specs.declared.grammar.token.SortToken.{SortToken}
 use Rattle.rule_files.specs.declared.grammar.token.Token.{Token}
 use Rattle.rule_files.specs.declared.grammar.token.Token.TheVariants as t
 use Rattle.rule_files.specs.Grammar.{Tree, Spells, place_of}
@@ -228,7 +228,7 @@ block_is names n d acts us vs rest here =
     ∙ ap (λ r. r >>= λ p. behind m.CloseBlock p.1 >>= λ after. Some (p.0, after)) (here (length all) (omega (arith, length-append us (t.Mark m.CloseBlock ∷ (vs ++ rest)))))
 
 -- the choice of an `on` whose further one is read
-abbrev with_further : Sort → Acts → Option (Act × List Token) → Option (Act × List Token)
+abbrev with_further : SortToken → Acts → Option (Act × List Token) → Option (Act × List Token)
 with_further sort met read =
     let unmet : Option (Acts × List Token) = read >>= λ q. Some (cons q.0 empty, q.1) in
     unmet >>= λ o. Some (If (is_of_sort sort) met o.0, o.1)

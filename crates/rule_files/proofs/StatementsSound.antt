@@ -6,7 +6,7 @@ use Rattle.eventkey.proofs.Fields.{bind_some}
 use Rattle.rules.specs.declared.arrays.Array.{Array}
 use Rattle.rule_files.specs.declared.grammar.token.Mark.{Mark}
 use Rattle.rule_files.specs.declared.grammar.token.Mark.TheVariants as m
-use Rattle.rule_files.specs.declared.grammar.token.Sort.{Sort}
+use Rattle.rule_files.specs.declared.grammar.token.SortToken.{SortToken}
 use Rattle.rule_files.specs.declared.grammar.token.Token.{Token}
 use Rattle.rule_files.specs.declared.grammar.token.Token.TheVariants as t
 use Rattle.rule_files.specs.Grammar.{Tree, Number, place_of}
@@ -50,11 +50,11 @@ InChoice names zero d act ts rest = ⊥
 InChoice names (suc n) d act ts rest = BeginsPart names n d (Choice act) ts rest
 
 -- what stands after `on` and a sort, and that no further one follows
-record Cased (names : List ℕ) (n d : ℕ) (sort : Sort) (act : Act) (ts rest : List Token) : Type 0 where
+record Cased (names : List ℕ) (n d : ℕ) (sort : SortToken) (act : Act) (ts rest : List Token) : Type 0 where
   case : BeginsPart names n d (Case sort act) ts rest
   ends : sort_at rest ≡ None
 
-abbrev InCase : (names : List ℕ) (n d : ℕ) (sort : Sort) (act : Act) (ts rest : List Token) → Type 0
+abbrev InCase : (names : List ℕ) (n d : ℕ) (sort : SortToken) (act : Act) (ts rest : List Token) → Type 0
 InCase names zero d sort act ts rest = ⊥
 InCase names (suc n) d sort act ts rest = Cased names n d sort act ts rest
 
@@ -324,7 +324,7 @@ until_only (t.Name name ∷ ts) rest e = elim (cases_Bool (eqb name until_name))
       absurd cc
 ]
 
-sort_only : (ts : List Token) (p : Sort × List Token) → sort_at ts ≡ Some p → ts ≡ t.Name on_name ∷ t.Sort p.0 ∷ p.1
+sort_only : (ts : List Token) (p : SortToken × List Token) → sort_at ts ≡ Some p → ts ≡ t.Name on_name ∷ t.Sort p.0 ∷ p.1
 sort_only [] p e = absurd cc
 sort_only (t.Number n ∷ ts) p e = absurd cc
 sort_only (t.Sign n ∷ ts) p e = absurd cc
@@ -351,11 +351,11 @@ sort_only (t.Name name ∷ t.Own n ∷ ts) p e = absurd cc
 sort_only (t.Name name ∷ t.Name n ∷ ts) p e = absurd cc
 sort_only (t.Name name ∷ t.Sort n ∷ ts) p e = elim (cases_Bool (eqb name on_name)) [
   | inl same ↦
-      let here : ◌≡◌ {A = Option (Sort × List Token)} (Some (n, ts)) (Some p) = ap (λ b. if b then Some (n, ts) else None) (sym same) ∙ e in
+      let here : ◌≡◌ {A = Option (SortToken × List Token)} (Some (n, ts)) (Some p) = ap (λ b. if b then Some (n, ts) else None) (sym same) ∙ e in
       ap (λ i. t.Name i ∷ t.Sort n ∷ ts) (equal_number on_name name same)
-      ∙ ap (λ (q : Sort × List Token). t.Name on_name ∷ t.Sort q.0 ∷ q.1) (some_is (n, ts) p here)
+      ∙ ap (λ (q : SortToken × List Token). t.Name on_name ∷ t.Sort q.0 ∷ q.1) (some_is (n, ts) p here)
   | inr other ↦
-      let here : ◌≡◌ {A = Option (Sort × List Token)} None (Some p) = ap (λ b. if b then Some (n, ts) else None) (sym other) ∙ e in
+      let here : ◌≡◌ {A = Option (SortToken × List Token)} None (Some p) = ap (λ b. if b then Some (n, ts) else None) (sym other) ∙ e in
       absurd cc
 ]
 
@@ -387,17 +387,17 @@ no_sort (t.Name name ∷ t.Own n ∷ us) more e = refl
 no_sort (t.Name name ∷ t.Name n ∷ us) more e = refl
 no_sort (t.Name name ∷ t.Sort n ∷ us) more e = elim (cases_Bool (eqb name on_name)) [
   | inl same ↦
-      let here : ◌≡◌ {A = Option (Sort × List Token)} (Some (n, us ++ more)) None = ap (λ b. if b then Some (n, us ++ more) else None) (sym same) ∙ e in
+      let here : ◌≡◌ {A = Option (SortToken × List Token)} (Some (n, us ++ more)) None = ap (λ b. if b then Some (n, us ++ more) else None) (sym same) ∙ e in
       absurd cc
   | inr other ↦ other
 ]
 
 -- ---- statements with blocks
 
-module _ (n d : ℕ) (block : Reads Acts) (choice : Reads Act) (next : Sort → Reads Act)
+module _ (n d : ℕ) (block : Reads Acts) (choice : Reads Act) (next : SortToken → Reads Act)
     (block_sound : (names : List ℕ) (ts : List Token) (acts : Acts) (rest : List Token) → block names ts ≡ Some (acts, rest) → InBlock names n d acts ts rest)
     (nested_sound : (names : List ℕ) (ts : List Token) (act : Act) (rest : List Token) → choice names ts ≡ Some (act, rest) → InChoice names n d act ts rest)
-    (further_sound : (sort : Sort) (names : List ℕ) (ts : List Token) (act : Act) (rest : List Token) → next sort names ts ≡ Some (act, rest) → InCase names n d sort act ts rest) where
+    (further_sound : (sort : SortToken) (names : List ℕ) (ts : List Token) (act : Act) (rest : List Token) → next sort names ts ≡ Some (act, rest) → InCase names n d sort act ts rest) where
   else_within : (j k : ℕ) (names : List ℕ) (ts us : List Token) (acts : Acts) (rest : List Token) → ts ≡ t.Mark m.Else ∷ us → InBlock names j k acts us rest →
       BeginsPart names j k (Otherwise acts) ts rest
   else_within zero k names ts us acts rest first h = absurd h
@@ -472,7 +472,7 @@ module _ (n d : ℕ) (block : Reads Acts) (choice : Reads Act) (next : Sort → 
 
   -- ---- chains of `on`
 
-  last_within : (j k : ℕ) (sort : Sort) (names : List ℕ) (ts rest : List Token) (met : Acts) → InBlock names j k met ts rest → sort_at rest ≡ None →
+  last_within : (j k : ℕ) (sort : SortToken) (names : List ℕ) (ts rest : List Token) (met : Acts) → InBlock names j k met ts rest → sort_at rest ≡ None →
       Cased names j k sort (If (is_of_sort sort) met empty) ts rest
   last_within zero k sort names ts rest met one none = absurd one
   last_within (suc j) zero sort names ts rest met one none = absurd one
@@ -485,7 +485,7 @@ module _ (n d : ℕ) (block : Reads Acts) (choice : Reads Act) (next : Sort → 
     ends = none;
   }
 
-  further_within : (j k : ℕ) (sort other : Sort) (names : List ℕ) (ts us vs rest : List Token) (met : Acts) (act : Act) → InBlock names j k met ts us →
+  further_within : (j k : ℕ) (sort other : SortToken) (names : List ℕ) (ts us vs rest : List Token) (met : Acts) (act : Act) → InBlock names j k met ts us →
       us ≡ t.Name on_name ∷ t.Sort other ∷ vs → InCase names j k other act vs rest → Cased names j k sort (If (is_of_sort sort) met (cons act empty)) ts rest
   further_within zero k sort other names ts us vs rest met act one first two = absurd one
   further_within (suc j) zero sort other names ts us vs rest met act one first two = absurd one
@@ -501,7 +501,7 @@ module _ (n d : ℕ) (block : Reads Acts) (choice : Reads Act) (next : Sort → 
         ends = two.ends;
       }
 
-  case_sound : (sort : Sort) (names : List ℕ) (ts : List Token) (act : Act) (rest : List Token) → case_with block next sort names ts ≡ Some (act, rest) → Cased names n d sort act ts rest
+  case_sound : (sort : SortToken) (names : List ℕ) (ts : List Token) (act : Act) (rest : List Token) → case_with block next sort names ts ≡ Some (act, rest) → Cased names n d sort act ts rest
   case_sound sort names ts act rest e =
       let a = bind_some (block names ts) (λ met. further (sort_at met.1) next names met.1 >>= λ unmet. Some (If (is_of_sort sort) met.0 unmet.0, unmet.1)) (act, rest) e in
       let b = bind_some (further (sort_at a.0.1) next names a.0.1) (λ unmet. Some (If (is_of_sort sort) a.0.0 unmet.0, unmet.1)) (act, rest) a.2 in
@@ -510,7 +510,7 @@ module _ (n d : ℕ) (block : Reads Acts) (choice : Reads Act) (next : Sort → 
       (subst (λ r. Cased names n d sort (If (is_of_sort sort) a.0.0 b.0.0) ts r) end.1
       (at (sort_at a.0.1) a.0.0 a.0.1 b.0.0 b.0.1 (block_sound names ts a.0.0 a.0.1 a.1) refl b.1))
     where
-      at : (o : Option (Sort × List Token)) (met : Acts) (us : List Token) (unmet : Acts) (left : List Token) → InBlock names n d met ts us → sort_at us ≡ o →
+      at : (o : Option (SortToken × List Token)) (met : Acts) (us : List Token) (unmet : Acts) (left : List Token) → InBlock names n d met ts us → sort_at us ≡ o →
           further o next names us ≡ Some (unmet, left) → Cased names n d sort (If (is_of_sort sort) met unmet) ts left
       at None met us unmet left one is read =
           let same = two_are empty unmet us left read in
@@ -675,7 +675,7 @@ module _ (n d : ℕ) (block : Reads Acts) (choice : Reads Act) (next : Sort → 
 record IsInside (n d : ℕ) : Type 0 where
   blocks : (names : List ℕ) (ts : List Token) (acts : Acts) (rest : List Token) → block_at n d names ts ≡ Some (acts, rest) → InBlock names n d acts ts rest
   choices : (names : List ℕ) (ts : List Token) (act : Act) (rest : List Token) → choice_at n d names ts ≡ Some (act, rest) → InChoice names n d act ts rest
-  cases : (sort : Sort) (names : List ℕ) (ts : List Token) (act : Act) (rest : List Token) → case_at n d sort names ts ≡ Some (act, rest) → InCase names n d sort act ts rest
+  cases : (sort : SortToken) (names : List ℕ) (ts : List Token) (act : Act) (rest : List Token) → case_at n d sort names ts ≡ Some (act, rest) → InCase names n d sort act ts rest
 
 statements_sound : (n d : ℕ) → IsInside n d → (j : ℕ) (names : List ℕ) (ts : List Token) (acts : Acts) (rest : List Token) → row (first_at n d) j names ts ≡ Some (acts, rest) →
     BeginsPart names n d (Statements acts) ts rest

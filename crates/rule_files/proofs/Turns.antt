@@ -2,9 +2,9 @@
 use Rattle.std.proofs.Common.{◌≡◌, ◌<◌, ◌≤◌, ℕ, zero, suc, ◌+◌, ◌-◌, List, [], ◌∷◌, ◌++◌, Option, Some, None, true, false, length, refl, sym, ap, ◌∙◌, arith, length-append, if◌then◌else◌}
 use Rattle.std.specs.Prelude.{IfSome}
 use Rattle.rules.specs.declared.tree.Statement.{Statement}
-use Rattle.rule_files.specs.declared.grammar.stop.Stop.{Stop}
-use Rattle.rule_files.specs.declared.grammar.stop.Stop.TheVariants.{Memory, Refused}
-use Rattle.rule_files.specs.declared.grammar.token.Sort.{Sort}
+use Rattle.rule_files.specs.declared.grammar.stop.ReadStop.{ReadStop}
+use Rattle.rule_files.specs.declared.grammar.stop.ReadStop.TheVariants.{Memory, Refused}
+use Rattle.rule_files.specs.declared.grammar.token.SortToken.{SortToken}
 use Rattle.rule_files.specs.declared.grammar.token.Token.{Token}
 use Rattle.rule_files.specs.ReadingValues.{◌>>=◌, Fails}
 use Rattle.rule_files.specs.ReadingStatements.{Done, Reads, begins, block_at, case_at, case_with, choice_at, choice_with, in_braces, row, statements_at, with_name}
@@ -62,7 +62,7 @@ is_done first n t front names ts total all so_far =
     let none_left : n - t ≡ 0 = omega arith in
     sym so_far ∙ ap (λ m. with_front front (row first m names ts)) none_left ∙ ap (λ (xs : Acts). Some (xs, ts)) (join_empty front)
 
-pub fails_here : (e : Stop) (first : Reads Done) (n t : ℕ) (front : Acts) (names : List ℕ) (ts : List Token) (total : Option (Acts × List Token)) → t < n →
+pub fails_here : (e : ReadStop) (first : Reads Done) (n t : ℕ) (front : Acts) (names : List ℕ) (ts : List Token) (total : Option (Acts × List Token)) → t < n →
     begins ts ≡ true → Fails e (first names ts) → with_front front (row first (n - t) names ts) ≡ total → Fails e total
 fails_here Memory first n t front names ts total below start read so_far = tt
 fails_here (Refused r) first n t front names ts total below start read so_far =
@@ -82,7 +82,7 @@ pub choice_more : (n d : ℕ) (names : List ℕ) (ts : List Token) → (n ≡ 0 
 choice_more zero d names ts some = absurd (some refl)
 choice_more (suc n) d names ts some = let less : n ≡ suc n - 1 = omega arith in ap (λ k. choice_with d (block_at k d) (choice_at k d) names ts) less
 
-pub case_more : (n d : ℕ) (sort : Sort) (names : List ℕ) (ts : List Token) → (n ≡ 0 → ⊥) → case_at n d sort names ts ≡ case_with (block_at (n - 1) d) (case_at (n - 1) d) sort names ts
+pub case_more : (n d : ℕ) (sort : SortToken) (names : List ℕ) (ts : List Token) → (n ≡ 0 → ⊥) → case_at n d sort names ts ≡ case_with (block_at (n - 1) d) (case_at (n - 1) d) sort names ts
 case_more zero d sort names ts some = absurd (some refl)
 case_more (suc n) d sort names ts some = let less : n ≡ suc n - 1 = omega arith in ap (λ k. case_with (block_at k d) (case_at k d) sort names ts) less
 

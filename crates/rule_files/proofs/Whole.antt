@@ -4,7 +4,7 @@ use Rattle.std.proofs.lemmas.Bool.{cases_Bool}
 use Rattle.std.proofs.lemmas.Bool.Decides.{nat_tests}
 use Rattle.std.specs.Prelude.{IfOk}
 use Rattle.eventkey.proofs.Fields.{bind_some}
-use Rattle.rule_files.specs.declared.grammar.stop.Stop.{Stop}
+use Rattle.rule_files.specs.declared.grammar.stop.ReadStop.{ReadStop}
 use Rattle.rule_files.specs.declared.grammar.lexemes.Placed.{Placed}
 use Rattle.rule_files.specs.Lexical.{Splits, lexemes_at}
 use Rattle.rule_files.specs.ReadingValues.{◌>>=◌, Gives}
@@ -72,9 +72,9 @@ some_found X (Ok v) some = λ empty. let none : length v.items ≡ 0 = ap length
 some_found X (Err e) some = tt
 
 -- what was split is so, and what is so was split
-pub split_found : {X : Type 0} (view : X → List Placed) (r : Result X Stop) (text : List ℕ) → Gives view r (lexemes_at text) → IfOk r (λ x. Splits 0 text (view x))
+pub split_found : {X : Type 0} (view : X → List Placed) (r : Result X ReadStop) (text : List ℕ) → Gives view r (lexemes_at text) → IfOk r (λ x. Splits 0 text (view x))
 split_found view (Ok x) text e = split_only text (view x) e
 split_found view (Err e) text h = tt
 
-pub split_whole : {X : Type 0} (view : X → List Placed) (r : Result X Stop) (text : List ℕ) (ts : List Placed) → Gives view r (lexemes_at text) → Splits 0 text ts → Gives view r (Some ts)
+pub split_whole : {X : Type 0} (view : X → List Placed) (r : Result X ReadStop) (text : List ℕ) (ts : List Placed) → Gives view r (lexemes_at text) → Splits 0 text ts → Gives view r (Some ts)
 split_whole view r text ts e splits = subst (Gives view r) (split_is text ts splits) e

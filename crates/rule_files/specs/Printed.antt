@@ -10,7 +10,7 @@ use Rattle.rules.specs.declared.arrays.Array.{Array}
 use Rattle.rule_files.specs.RuleFile.{other_names}
 use Rattle.rule_files.specs.declared.file_model.FileNames.{FileNames}
 use Rattle.rule_files.specs.declared.file_model.KindNames.{KindNames}
-use Rattle.rule_files.specs.declared.kinds.Head.{Head}
+use Rattle.rule_files.specs.declared.kinds.KindHead.{KindHead}
 use Rattle.rule_files.specs.declared.printed.Layout.{Layout}
 use Rattle.rule_files.specs.declared.printed.Otherwise.{Otherwise}
 use Rattle.rule_files.specs.declared.printed.Otherwise.TheVariants.{Block, Choice, Nothing}
@@ -408,10 +408,10 @@ rest_of (If' e s met t unmet ∷ []) = items-the_row-Statement _ unmet
 rest_of rule = []
 
 -- the last process of a kind
-abbrev pub last_of : Head → ℕ
+abbrev pub last_of : KindHead → ℕ
 last_of k = k.first + k.count - 1
 
-abbrev pub with_head : Head → List ℕ → List ℕ
+abbrev pub with_head : KindHead → List ℕ → List ℕ
 with_head k text =
     ((((((((text ++ codes "kind ") ++ string_bytes k.name) ++ codes ": ") ++ decimal k.count)
     ++ codes " (") ++ decimal k.first) ++ codes " to ") ++ decimal (last_of k)) ++ codes ")\n"

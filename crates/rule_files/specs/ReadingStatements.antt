@@ -3,7 +3,7 @@ use Rattle.std.specs.Prelude.{ℕ, zero, suc, ◌^◌, List, [], ◌∷◌, ◌+
 use Rattle.rules.specs.declared.arrays.Array.{Array}
 use Rattle.rule_files.specs.declared.grammar.token.Mark.{Mark}
 use Rattle.rule_files.specs.declared.grammar.token.Mark.TheVariants as m
-use Rattle.rule_files.specs.declared.grammar.token.Sort.{Sort}
+use Rattle.rule_files.specs.declared.grammar.token.SortToken.{SortToken}
 use Rattle.rule_files.specs.declared.grammar.token.Token.{Token}
 use Rattle.rule_files.specs.declared.grammar.token.Token.TheVariants as t
 use Rattle.rule_files.specs.Grammar.{Tree, Number, place_of}
@@ -100,17 +100,17 @@ repetition d block names ts =
     new_name names ts >>= λ p. count_at p.1 >>= λ n. repeated (until_at n.1) d block (length names) n.0 (names ++ p.0 ∷ []) n.1
 
 -- the sort after `on`, where they come first
-abbrev pub sort_at : List Token → Option (Sort × List Token)
+abbrev pub sort_at : List Token → Option (SortToken × List Token)
 sort_at (t.Name name ∷ t.Sort sort ∷ rest) = if eqb name on_name then Some (sort, rest) else None
 sort_at _ = None
 
 -- a further `on`
-abbrev pub further : Option (Sort × List Token) → (Sort → Reads Act) → Reads (Acts)
+abbrev pub further : Option (SortToken × List Token) → (SortToken → Reads Act) → Reads (Acts)
 further None next names ts = Some (empty, ts)
 further (Some p) next names ts = next p.0 names p.1 >>= λ q. Some (cons q.0 empty, q.1)
 
 -- what stands after `on` and a sort
-abbrev pub case_with : Reads (Acts) → (Sort → Reads Act) → Sort → Reads Act
+abbrev pub case_with : Reads (Acts) → (SortToken → Reads Act) → SortToken → Reads Act
 case_with block next sort names ts =
     block names ts >>= λ met. further (sort_at met.1) next names met.1 >>= λ unmet. Some (If (is_of_sort sort) met.0 unmet.0, unmet.1)
 
@@ -140,10 +140,10 @@ by_start m.Repeat d block choice names ts = repetition d block names ts
 by_start _ d block choice names ts = None
 
 -- a chain of `on`
-abbrev pub cases : Reads (Acts) → (Sort → Reads Act) → Reads Done
+abbrev pub cases : Reads (Acts) → (SortToken → Reads Act) → Reads Done
 cases block next names ts = sort_at ts >>= λ p. unnamed (case_with block next p.0 names p.1)
 
-abbrev pub one : ℕ → Reads (Acts) → Reads Act → (Sort → Reads Act) → Reads Done
+abbrev pub one : ℕ → Reads (Acts) → Reads Act → (SortToken → Reads Act) → Reads Done
 one d block choice next names (t.Mark mark ∷ rest) = by_start mark d block choice names rest
 one d block choice next names (t.Word place ∷ rest) = assignment d place names rest
 one d block choice next names (t.Array array ∷ rest) = placing d array names rest
@@ -174,7 +174,7 @@ abbrev mutual
   choice_at (suc n) d names ts = choice_with d (block_at n d) (choice_at n d) names ts
 
   -- what stands after a further `on` and its sort
-  pub case_at : (n d : ℕ) (sort : Sort) → Reads Act
+  pub case_at : (n d : ℕ) (sort : SortToken) → Reads Act
   case_at zero d sort names ts = None
   case_at (suc n) d sort names ts = case_with (block_at n d) (case_at n d) sort names ts
 

@@ -2,8 +2,8 @@
 use Rattle.std.specs.Prelude.{◌≡◌, ℕ, zero, suc, List, [], ◌∷◌, Option, Some, None, Result, Ok, Err, eqb, length, nat_lt, if◌then◌else◌}
 use Rattle.rules.specs.declared.tree.Operator.{Operator}
 use Rattle.rules.specs.declared.tree.Operator.TheVariants as o
-use Rattle.rule_files.specs.declared.grammar.stop.Stop.{Stop}
-use Rattle.rule_files.specs.declared.grammar.stop.Stop.TheVariants.{Memory, Refused}
+use Rattle.rule_files.specs.declared.grammar.stop.ReadStop.{ReadStop}
+use Rattle.rule_files.specs.declared.grammar.stop.ReadStop.TheVariants.{Memory, Refused}
 use Rattle.rule_files.specs.declared.grammar.token.Mark.{Mark as MarkKind}
 use Rattle.rule_files.specs.declared.grammar.token.Mark.TheVariants as m
 use Rattle.rule_files.specs.declared.grammar.token.Token.{Token}
@@ -11,11 +11,11 @@ use Rattle.rule_files.specs.declared.grammar.token.Token.TheVariants as t
 use Rattle.rule_files.specs.Grammar.{Tree, Number, Not, Two, Entry, Draw, Normal, Triangular, Choose, Element, code, height, leaf, looseness, member}
 
 -- what a function returned, seen by view, is what reading gives, unless memory ran out
-abbrev pub Fails : {Y : Type 0} → Stop → Option Y → Type 0
+abbrev pub Fails : {Y : Type 0} → ReadStop → Option Y → Type 0
 Fails Memory read = Unit {0}
 Fails (Refused r) read = read ≡ None
 
-abbrev pub Gives : {X Y : Type 0} → (X → Y) → Result X Stop → Option Y → Type 0
+abbrev pub Gives : {X Y : Type 0} → (X → Y) → Result X ReadStop → Option Y → Type 0
 Gives view (Ok x) read = read ≡ Some (view x)
 Gives view (Err e) read = Fails e read
 

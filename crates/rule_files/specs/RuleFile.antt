@@ -7,7 +7,7 @@ use Rattle.std.specs.Cmp.Lexicographic.{pointwise}
 use Rattle.std.specs.List.{list_any}
 use Rattle.rule_files.specs.Arrays.{State, array_view, few_words, key_first, no_state, with_item}
 use Rattle.rule_files.specs.Names.{are_distinct, is_name}
-use Rattle.rule_files.specs.declared.kinds.Head.{Head}
+use Rattle.rule_files.specs.declared.kinds.KindHead.{KindHead}
 use Rattle.rule_files.specs.declared.scope.Field.{Field}
 use Rattle.rule_files.specs.declared.scope.Named.{Named}
 use Rattle.rule_files.specs.declared.scope.NamedSort.{NamedSort}
@@ -180,7 +180,7 @@ sort_view s = (string_bytes s.name, map string_bytes s.fields.items)
 abbrev pub field_view : Field → List ℕ × ℕ
 field_view f = (string_bytes f.name, f.place)
 
-abbrev pub kind_view : Head → Kind
+abbrev pub kind_view : KindHead → Kind
 kind_view k = record { name = string_bytes k.name; first = k.first; count = k.count }
 
 -- the parts that contracts see

@@ -7,7 +7,7 @@ use Rattle.rules.specs.declared.tree.Statement.{Statement, Row_of-Statement, end
 use Rattle.rules.specs.declared.tree.Statement.TheVariants as s
 use Rattle.rule_files.specs.declared.grammar.token.Mark.{Mark}
 use Rattle.rule_files.specs.declared.grammar.token.Mark.TheVariants as m
-use Rattle.rule_files.specs.declared.grammar.token.Sort.{Sort}
+use Rattle.rule_files.specs.declared.grammar.token.SortToken.{SortToken}
 use Rattle.rule_files.specs.declared.grammar.token.Token.{Token}
 use Rattle.rule_files.specs.declared.grammar.token.Token.TheVariants as t
 use Rattle.rule_files.specs.Grammar.{Tree, Content, Number, Two, Spells, place_of, tree_of}
@@ -82,7 +82,7 @@ pub record SpellsSending (names : List ℕ) (d : ℕ) (receiver delay : Tree) (c
   pub all : tokens ≡ t.Mark m.To ∷ (ts ++ (t.Mark m.After ∷ (us ++ (first ++ (second ++ (third ++ fourth))))))
 
 -- whether the first word of the content is the number of a sort
-abbrev pub is_of_sort : Sort → Tree
+abbrev pub is_of_sort : SortToken → Tree
 is_of_sort sort = Two o.Same (Content 0) (Number sort.number)
 
 -- whether `on` and a sort come first
@@ -96,7 +96,7 @@ pub data Part : Type 0 where
   Statements : (acts : Acts) → Part
   Choice : (act : Act) → Part
   Otherwise : (acts : Acts) → Part
-  Case : (sort : Sort) (act : Act) → Part
+  Case : (sort : SortToken) (act : Act) → Part
 
 -- With these names in scope the tokens spell the part, with at most d blocks around one another, and at most n blocks, `else if` and further `on`
 -- around one another. A `let` names its value for the statements after it, a `repeat` the number of the turn for its block and for the value
@@ -120,7 +120,7 @@ pub data SpellsPart : (names : List ℕ) (n d : ℕ) → Part → List Token →
   an_if : (names : List ℕ) (n d : ℕ) (act : Act) (acts : Acts) (ts us : List Token) →
       SpellsPart names n d (Choice act) ts → SpellsPart names n d (Statements acts) us →
       SpellsPart names n d (Statements (cons act acts)) (t.Mark m.If ∷ (ts ++ us))
-  an_on : (names : List ℕ) (n d : ℕ) (sort : Sort) (act : Act) (acts : Acts) (ts us : List Token) →
+  an_on : (names : List ℕ) (n d : ℕ) (sort : SortToken) (act : Act) (acts : Acts) (ts us : List Token) →
       SpellsPart names n d (Case sort act) ts → is_on us ≡ false → SpellsPart names n d (Statements acts) us →
       SpellsPart names n d (Statements (cons act acts)) (t.Name on_name ∷ t.Sort sort ∷ (ts ++ us))
   a_repeat : (names : List ℕ) (n d name count : ℕ) (body acts : Acts) (ts us : List Token) → place_of name names ≡ None → length names < 16 →
@@ -140,9 +140,9 @@ pub data SpellsPart : (names : List ℕ) (n d : ℕ) → Part → List Token →
       SpellsPart names (suc n) (suc d) (Otherwise acts) (t.Mark m.Else ∷ t.Mark m.OpenBlock ∷ (us ++ (t.Mark m.CloseBlock ∷ [])))
   an_else_if : (names : List ℕ) (n d : ℕ) (act : Act) (us : List Token) → SpellsPart names n d (Choice act) us →
       SpellsPart names (suc n) d (Otherwise (cons act empty)) (t.Mark m.Else ∷ t.Mark m.If ∷ us)
-  a_case : (names : List ℕ) (n d : ℕ) (sort : Sort) (met : Acts) (us : List Token) → SpellsPart names n d (Statements met) us →
+  a_case : (names : List ℕ) (n d : ℕ) (sort : SortToken) (met : Acts) (us : List Token) → SpellsPart names n d (Statements met) us →
       SpellsPart names (suc n) (suc d) (Case sort (If (is_of_sort sort) met empty)) (t.Mark m.OpenBlock ∷ (us ++ (t.Mark m.CloseBlock ∷ [])))
-  a_further_case : (names : List ℕ) (n d : ℕ) (sort other : Sort) (met : Acts) (act : Act) (us vs : List Token) →
+  a_further_case : (names : List ℕ) (n d : ℕ) (sort other : SortToken) (met : Acts) (act : Act) (us vs : List Token) →
       SpellsPart names n d (Statements met) us → SpellsPart names n (suc d) (Case other act) vs →
       SpellsPart names (suc n) (suc d) (Case sort (If (is_of_sort sort) met (cons act empty)))
       (t.Mark m.OpenBlock ∷ (us ++ (t.Mark m.CloseBlock ∷ t.Name on_name ∷ t.Sort other ∷ vs)))

@@ -30,7 +30,7 @@ use crate::entries::{
 };
 use crate::file_model::{FileModel, FileNames, Form, KindNames, ModelNames};
 use crate::given::given_names;
-use crate::grammar::Mistake as Place;
+use crate::grammar::ReadMistake as Place;
 use crate::kind_mistakes::kinds_mistakes_of;
 use crate::kind_rules::kinds_model_of;
 use crate::kinds::has_kinds;

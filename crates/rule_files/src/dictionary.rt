@@ -12,13 +12,13 @@ ghost use Rattle.rule_files.specs.RuleFile.{parts_view, sort_view};
 ghost use Rattle.rule_files.specs.Scopes.{token_meant, with_entry};
 
 use crate::arrays::NamedArray;
-use crate::grammar::{Meaning, Scope as Dictionary};
+use crate::grammar::{Meaning, RuleScope};
 use crate::kinds::KindTable;
 use crate::scope::{Field, Named, NamedSort, OTHERS, Scope, is_key, is_name};
 use std::alloc::{AllocError, Global};
 
 /// Returns what the names of a model file mean in its rules.
-pub(crate) fn dictionary_of(alloc: Global, scope: &Scope<'_, '_>) -> Result<Dictionary, AllocError>
+pub(crate) fn dictionary_of(alloc: Global, scope: &Scope<'_, '_>) -> Result<RuleScope, AllocError>
     ensures { IfOk result (λ names. names ≡ dictionary (parts_view scope.now)) }
 {
     let mut names = empty(alloc, has_key(scope.words.as_slice()), scope.own);
@@ -35,12 +35,12 @@ pub(crate) fn dictionary_of(alloc: Global, scope: &Scope<'_, '_>) -> Result<Dict
 }
 
 /// Returns a dictionary without names, of the kind that begins with this process.
-fn empty(alloc: Global, draws: bool, own: Option<u32>) -> Dictionary
+fn empty(alloc: Global, draws: bool, own: Option<u32>) -> RuleScope
     ensures { result ≡ record { draws = draws; own = own; entries = [] } }
 {
     match own {
-        Some(first) => Dictionary::of_kind(alloc, draws, first),
-        None => Dictionary::new(alloc, draws),
+        Some(first) => RuleScope::of_kind(alloc, draws, first),
+        None => RuleScope::new(alloc, draws),
     }
 }
 
@@ -58,7 +58,7 @@ pub(crate) fn has_key(words: &[String]) -> bool
 
 /// Adds one name. The names of a model file are names, no two of them the same, and their places
 /// fit, so that only memory can be missing.
-fn add(alloc: Global, names: &mut Dictionary, name: &str, what: Meaning) -> Result<(), AllocError>
+fn add(alloc: Global, names: &mut RuleScope, name: &str, what: Meaning) -> Result<(), AllocError>
     ensures { OnOk result (names.new ≡ with_entry names.old name.now (token_meant what)) }
 {
     match names.add(alloc, name, what) {
@@ -78,7 +78,7 @@ fn byte(place: usize) -> Result<u8, AllocError>
 }
 
 /// Adds the words of the state but the key and those of arrays, which have no name.
-fn add_words(alloc: Global, names: &mut Dictionary, words: &[String]) -> Result<(), AllocError>
+fn add_words(alloc: Global, names: &mut RuleScope, words: &[String]) -> Result<(), AllocError>
     ensures draws { OnOk result (names.new.draws ≡ names.old.draws) }
     ensures own { OnOk result (names.new.own ≡ names.old.own) }
     ensures entries { OnOk result (names.new.entries
@@ -93,7 +93,7 @@ fn add_words(alloc: Global, names: &mut Dictionary, words: &[String]) -> Result<
 }
 
 /// Adds the words of content that have a name.
-fn add_content(alloc: Global, names: &mut Dictionary, words: &[String]) -> Result<(), AllocError>
+fn add_content(alloc: Global, names: &mut RuleScope, words: &[String]) -> Result<(), AllocError>
     ensures draws { OnOk result (names.new.draws ≡ names.old.draws) }
     ensures own { OnOk result (names.new.own ≡ names.old.own) }
     ensures entries { OnOk result (names.new.entries
@@ -106,7 +106,7 @@ fn add_content(alloc: Global, names: &mut Dictionary, words: &[String]) -> Resul
 }
 
 /// Adds the words of content that have no name of their own.
-fn add_others(alloc: Global, names: &mut Dictionary, count: usize) -> Result<(), AllocError>
+fn add_others(alloc: Global, names: &mut RuleScope, count: usize) -> Result<(), AllocError>
     ensures draws { OnOk result (names.new.draws ≡ names.old.draws) }
     ensures own { OnOk result (names.new.own ≡ names.old.own) }
     ensures entries { OnOk result (names.new.entries
@@ -132,7 +132,7 @@ fn other_name(place: usize) -> &'static str
 }
 
 /// Adds the named numbers.
-fn add_numbers(alloc: Global, names: &mut Dictionary, more: &[Named]) -> Result<(), AllocError>
+fn add_numbers(alloc: Global, names: &mut RuleScope, more: &[Named]) -> Result<(), AllocError>
     ensures draws { OnOk result (names.new.draws ≡ names.old.draws) }
     ensures own { OnOk result (names.new.own ≡ names.old.own) }
     ensures entries { OnOk result (names.new.entries
@@ -156,7 +156,7 @@ pub(crate) fn value_of(numbers: &[u64]) -> u64
 }
 
 /// Adds the tables.
-fn add_tables(alloc: Global, names: &mut Dictionary, more: &[Named]) -> Result<(), AllocError>
+fn add_tables(alloc: Global, names: &mut RuleScope, more: &[Named]) -> Result<(), AllocError>
     ensures draws { OnOk result (names.new.draws ≡ names.old.draws) }
     ensures own { OnOk result (names.new.own ≡ names.old.own) }
     ensures entries { OnOk result (names.new.entries
@@ -172,7 +172,7 @@ fn add_tables(alloc: Global, names: &mut Dictionary, more: &[Named]) -> Result<(
 }
 
 /// Adds the arrays.
-fn add_arrays(alloc: Global, names: &mut Dictionary, more: &[NamedArray]) -> Result<(), AllocError>
+fn add_arrays(alloc: Global, names: &mut RuleScope, more: &[NamedArray]) -> Result<(), AllocError>
     ensures draws { OnOk result (names.new.draws ≡ names.old.draws) }
     ensures own { OnOk result (names.new.own ≡ names.old.own) }
     ensures entries { OnOk result (names.new.entries
@@ -190,7 +190,7 @@ fn add_arrays(alloc: Global, names: &mut Dictionary, more: &[NamedArray]) -> Res
 }
 
 /// Adds the sorts of messages.
-fn add_sorts(alloc: Global, names: &mut Dictionary, more: &[NamedSort]) -> Result<(), AllocError>
+fn add_sorts(alloc: Global, names: &mut RuleScope, more: &[NamedSort]) -> Result<(), AllocError>
     ensures draws { OnOk result (names.new.draws ≡ names.old.draws) }
     ensures own { OnOk result (names.new.own ≡ names.old.own) }
     ensures entries { OnOk result (names.new.entries
@@ -211,7 +211,7 @@ fn add_sorts(alloc: Global, names: &mut Dictionary, more: &[NamedSort]) -> Resul
 }
 
 /// Adds the fields of the sorts.
-fn add_fields(alloc: Global, names: &mut Dictionary, more: &[Field]) -> Result<(), AllocError>
+fn add_fields(alloc: Global, names: &mut RuleScope, more: &[Field]) -> Result<(), AllocError>
     ensures draws { OnOk result (names.new.draws ≡ names.old.draws) }
     ensures own { OnOk result (names.new.own ≡ names.old.own) }
     ensures entries { OnOk result (names.new.entries
@@ -229,11 +229,7 @@ fn add_fields(alloc: Global, names: &mut Dictionary, more: &[Field]) -> Result<(
 }
 
 /// Adds the kinds of processes.
-fn add_kinds(
-    alloc: Global,
-    names: &mut Dictionary,
-    more: &[KindTable<'_>],
-) -> Result<(), AllocError>
+fn add_kinds(alloc: Global, names: &mut RuleScope, more: &[KindTable<'_>]) -> Result<(), AllocError>
     ensures draws { OnOk result (names.new.draws ≡ names.old.draws) }
     ensures own { OnOk result (names.new.own ≡ names.old.own) }
     ensures entries { OnOk result (names.new.entries

@@ -1,7 +1,7 @@
 // The models that a model file can describe.
 
 use crate::arrays::NamedArray;
-use crate::kinds::Head;
+use crate::kinds::KindHead;
 use crate::scope::{Named, NamedSort};
 use eventkey::Message;
 use model::{Model as Simulated, Origin, Sends, Words};
@@ -42,7 +42,7 @@ pub enum Form {
 #[derive(Debug, Drop)]
 pub struct KindNames {
     /// The kind.
-    pub head: Head,
+    pub head: KindHead,
     /// The names of its state and its rules.
     pub names: FileNames,
 }

@@ -13,8 +13,8 @@ mod values;
 mod words;
 
 pub use lexemes::{Lexeme, Placed, tokens};
-pub use mistakes::{Kind, Mistake};
+pub use mistakes::{MistakeKind, ReadMistake};
 pub use read::{ReadError, find_mistakes, read_rule};
-pub use scope::{Meaning, Scope, ScopeError};
-pub use stop::{Refusal, Stop, Wanted};
+pub use scope::{Meaning, RuleScope, ScopeError};
+pub use stop::{ReadStop, Refusal, Wanted};
 pub use token::{Mark, Token};

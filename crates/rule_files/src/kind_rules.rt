@@ -24,7 +24,7 @@ use crate::described::{Body, NO_SEED, names_of, no_rule, rule_at, seed_of, table
 use crate::digest::digest_of;
 use crate::entries::{Among, NO_TABLES, scope_in, tables_of};
 use crate::file_model::{Form, KindNames, ModelNames};
-use crate::kinds::{Head, KindTable, Kinds, is_keyed, kinds_of};
+use crate::kinds::{KindHead, KindTable, Kinds, is_keyed, kinds_of};
 use crate::reading::RuleMistake;
 use crate::scope::Scope;
 use crate::shown::shown_kinds;
@@ -348,7 +348,7 @@ fn names_of_kind(
     scope: Scope<'_, '_>,
     kind: &KindTable<'_>,
 ) -> Result<KindNames, AllocError> {
-    let head = Head {
+    let head = KindHead {
         name: String::from_str(alloc, kind.head.name.as_str())?,
         first: kind.head.first,
         count: kind.head.count,

@@ -18,7 +18,7 @@ use toml::{Table, Value};
 
 /// A kind of processes.
 #[derive(Debug, Drop)]
-pub struct Head {
+pub struct KindHead {
     /// The name.
     pub name: String,
     /// The first process.
@@ -31,7 +31,7 @@ pub struct Head {
 #[derive(Debug, Drop)]
 pub struct KindTable<'a> {
     /// The kind.
-    pub head: Head,
+    pub head: KindHead,
     /// The table with its state and its rules.
     pub table: &'a Table,
 }
@@ -125,7 +125,7 @@ fn has_kind_keys(table: &Table) -> bool
 
 #[tactic(auto, unfolding(crate::specs::Kinds::kind_in))]
 /// Reads a kind whose processes begin at `first`, if these are at most 65,536 in all.
-fn kind_in(alloc: Global, first: u32, table: &Table) -> Result<Option<Head>, AllocError>
+fn kind_in(alloc: Global, first: u32, table: &Table) -> Result<Option<KindHead>, AllocError>
     requires { first ≤ 65536 }
     ensures kind { IfOk result (λ found. option_map kind_view found
         ≡ kind_in first (table_view table.now)) }
@@ -145,7 +145,7 @@ fn kind_in(alloc: Global, first: u32, table: &Table) -> Result<Option<Head>, All
         return Ok(None);
     }
     let name = String::from_str(alloc, name)?;
-    Ok(Some(Head {
+    Ok(Some(KindHead {
         name,
         first,
         count: count as u32,

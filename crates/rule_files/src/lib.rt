@@ -25,6 +25,6 @@ pub use chosen::law_of_kinds;
 pub use described::RULES_KEYS;
 pub use digest::law_of_digests;
 pub use file_model::{FileModel, FileNames, Form, KindNames, ModelNames};
-pub use kinds::{Head, KindTable};
+pub use kinds::{KindHead, KindTable};
 pub use reading::RuleMistake;
 pub use scope::{Field, Named, NamedSort, Scope};

@@ -25,7 +25,7 @@ ghost use Rattle.rule_files.specs.RuleFile.{other_names};
 use crate::arrays::NamedArray;
 use crate::dictionary::value_of;
 use crate::file_model::{FileNames, KindNames};
-use crate::kinds::Head;
+use crate::kinds::KindHead;
 use crate::scope::{Named, NamedSort, OTHERS};
 use itoa::Buffer;
 use rules::{Array, Expression, Known, Law, Operator, Rules, Sending, Statement, Table};
@@ -158,7 +158,7 @@ fn put_kind(
 }
 
 /// Appends the name and the processes of a kind.
-fn put_head(head: &Head, text: &mut String) -> Result<(), AllocError>
+fn put_head(head: &KindHead, text: &mut String) -> Result<(), AllocError>
     ensures { OnOk result (string_bytes text.new ≡ with_head head.now (string_bytes text.old)) }
 {
     let (first, count) = (u64::from(head.first), u64::from(head.count));

@@ -6,7 +6,7 @@ ghost use Rattle.rule_files.specs.RuleFile.{parts_view};
 ghost use Rattle.rules.specs.Limits.{IsWithin};
 
 use crate::dictionary::dictionary_of;
-use crate::grammar::{Mistake, ReadError};
+use crate::grammar::{ReadError, ReadMistake};
 use crate::scope::Scope;
 use rules::{Limit, Statement, exceeded};
 use std::alloc::{AllocError, Global};
@@ -20,7 +20,7 @@ pub enum RuleMistake {
     NoText,
     /// It is not by the grammar, or has a name with no meaning.
     #[error("{0}")]
-    Text(Mistake),
+    Text(ReadMistake),
     /// It exceeds this limit.
     #[error("more than {0} on some way through it")]
     Exceeds(Limit),

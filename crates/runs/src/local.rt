@@ -5,6 +5,7 @@ ghost use Rattle.recovery.specs.OldRecords.{KeepsOldRecords};
 ghost use Rattle.runs.specs.Runs.{IsRunInProgram};
 ghost use Rattle.wire.specs.Local.{state_of};
 ghost use Rattle.wire.specs.declared.local.Held.TheVariants.{Fresh};
+ghost use Rattle.node.specs.Node.{most_nodes};
 
 use crate::over::{Finished, run_over};
 use crate::rounds::{Plan, RunFault, Watch};
@@ -28,7 +29,7 @@ pub fn run_local<M: Simulated, D: SectorDisk + Drop, W: Watch>(
     watch: &mut W,
 ) -> Returned<D, Finished, RunFault>
     requires some { 0 < plan.nodes }
-    requires few { plan.nodes ≤ 64 }
+    requires few { plan.nodes ≤ most_nodes }
     requires begun { 1 ≤ end }
     requires short { end ≤ 2 ^ 40 }
     // It makes the plan's rounds and nothing else, or has a cause for its fault; at every exit it has

@@ -4,6 +4,7 @@ ghost use Rattle.std.specs.Prelude.{◌≡◌, ◌<◌, ◌≤◌, ◌^◌, leng
 ghost use Rattle.coordinator.specs.Opening.{AllFresh};
 ghost use Rattle.recovery.specs.OldRecords.{KeepsOldRecords};
 ghost use Rattle.runs.specs.Runs.{IsRun};
+ghost use Rattle.node.specs.Node.{most_nodes};
 
 use crate::rounds::{Plan, RunFault, Watch, run_session};
 use coordinator::Session;
@@ -46,7 +47,7 @@ pub fn run_over<M: Simulated, P: Port + Drop, D: SectorDisk + Drop, W: Watch>(
     watch: &mut W,
 ) -> Returned<D, Finished, RunFault>
     requires some { 0 < plan.nodes }
-    requires few { plan.nodes ≤ 64 }
+    requires few { plan.nodes ≤ most_nodes }
     requires each { length ports.items ≡ plan.nodes }
     requires fresh { AllFresh (map P.state ports.items) }
     requires begun { 1 ≤ end }

@@ -1,6 +1,7 @@
 // Models, plans, disks in memory, and what is on them.
 
 ghost use Rattle.std.specs.Prelude.{◌≡◌, ◌<◌, ◌≤◌};
+ghost use Rattle.node.specs.Node.{most_nodes};
 
 use commitlog::{Log, LogFault, format};
 use coordinator::{Session, SessionFault};
@@ -45,7 +46,7 @@ impl Watch for Nobody {
 /// rounds.
 pub(crate) fn plan(nodes: u32, batch: u32, every: u32) -> Plan
     ensures some { 0 < result.nodes }
-    ensures few { result.nodes ≤ 64 }
+    ensures few { result.nodes ≤ most_nodes }
 {
     Plan {
         nodes: nodes.clamp(1, 64),
@@ -106,7 +107,7 @@ pub(crate) fn left_by<M: Simulated>(
     plan: Plan,
 ) -> Result<(MemDisk, Option<RunFault>), LogFault>
     requires some { 0 < plan.nodes }
-    requires few { plan.nodes ≤ 64 }
+    requires few { plan.nodes ≤ most_nodes }
 {
     let disk = formatted(alloc, model, sectors, end)?;
     let ran = run_local(alloc, model, disk, end.clamp(1, 1000), plan, &mut Nobody);
@@ -147,7 +148,7 @@ pub(crate) fn reached<M: Simulated>(
     plan: Plan,
 ) -> Result<Front, Fail>
     requires some { 0 < plan.nodes }
-    requires few { plan.nodes ≤ 64 }
+    requires few { plan.nodes ≤ most_nodes }
 {
     let (disk, fault) = left_by(alloc, model, sectors, end, plan)?;
     match fault {

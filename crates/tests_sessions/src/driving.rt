@@ -1,6 +1,7 @@
 // Whole runs on disks in memory.
 
 ghost use Rattle.std.specs.Prelude.{◌<◌, ◌≤◌};
+ghost use Rattle.node.specs.Node.{most_nodes};
 
 use crate::disks::{END, Near, formatted, opened, plan, ring};
 use crate::steps::stepped;
@@ -38,7 +39,7 @@ impl Watch for Seen {
 /// A plan of three nodes.
 fn scheduled(schedule: Schedule, commit_every: u32, rounds: u32) -> Plan
     ensures some { 0 < result.nodes }
-    ensures few { result.nodes ≤ 64 }
+    ensures few { result.nodes ≤ most_nodes }
 {
     Plan {
         schedule,
@@ -55,7 +56,7 @@ fn run_on(
     seen: &mut Seen,
 ) -> Result<Result<Finished, RunFault>, LogFault>
     requires some { 0 < plan.nodes }
-    requires few { plan.nodes ≤ 64 }
+    requires few { plan.nodes ≤ most_nodes }
 {
     let ring = ring();
     let disk = formatted(alloc, &ring, 64, END)?;

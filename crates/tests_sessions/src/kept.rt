@@ -1,6 +1,7 @@
 // Runs with checkpoints and with adjusting budgets, on disks in memory.
 
 ghost use Rattle.std.specs.Prelude.{◌<◌, ◌≤◌};
+ghost use Rattle.node.specs.Node.{most_nodes};
 
 use crate::disks::{phold, plan, reached};
 use recovery::Front;
@@ -11,7 +12,7 @@ use std::test::Fail;
 /// Whether a run of the PHOLD to 200 ticks reaches this front.
 fn reaches(alloc: Global, plan: Plan, front: &Front) -> Result<bool, Fail>
     requires some { 0 < plan.nodes }
-    requires few { plan.nodes ≤ 64 }
+    requires few { plan.nodes ≤ most_nodes }
 {
     Ok(reached(alloc, &phold(), 16_384, 200, plan)?.is_same(front))
 }

@@ -4,7 +4,7 @@
 use eventkey::Message;
 use model::Model;
 use rule_files::grammar::{
-    Kind, Meaning, Mistake, ReadError, Scope, ScopeError, find_mistakes, read_rule,
+    Meaning, MistakeKind, ReadError, ReadMistake, RuleScope, ScopeError, find_mistakes, read_rule,
 };
 use rules::{Array, Rules, RulesParts, Statement};
 use smallvec::SmallVec;
@@ -13,8 +13,8 @@ use std::test::Fail;
 
 /// A scope with the state `served`, `free_at`, `queue` and `key`, the content `job`, the number
 /// `jobs` and the table `speed`.
-fn scope(alloc: Global) -> Result<Scope, ScopeError> {
-    let mut scope = Scope::new(alloc, true);
+fn scope(alloc: Global) -> Result<RuleScope, ScopeError> {
+    let mut scope = RuleScope::new(alloc, true);
     scope.add(alloc, "free_at", Meaning::Word(0))?;
     scope.add(alloc, "served", Meaning::Word(1))?;
     scope.add(alloc, "job", Meaning::Content(0))?;
@@ -82,8 +82,8 @@ fn operators_bind_by_strength_and_from_the_left(rt: HostRuntime) -> Result<(), F
 
 /// A scope of the rules of a kind that begins at process 1, in a model with the kind `teller` of
 /// processes 1 to 3, the sorts `arrive`, of two words, and `leave`, of none, and the state `served`.
-fn scope_of_kind(alloc: Global) -> Result<Scope, ScopeError> {
-    let mut scope = Scope::of_kind(alloc, false, 1);
+fn scope_of_kind(alloc: Global) -> Result<RuleScope, ScopeError> {
+    let mut scope = RuleScope::of_kind(alloc, false, 1);
     scope.add(alloc, "served", Meaning::Word(0))?;
     scope.add(alloc, "teller", Meaning::Kind { first: 1, count: 3 })?;
     scope.add(
@@ -236,7 +236,7 @@ fn reading_goes_on_behind_a_mistake(rt: HostRuntime) -> Result<(), Fail> {
 
 /// What a scope that has the name `a` says to a further one.
 fn added(alloc: Global, name: &str) -> Result<(), ScopeError> {
-    let mut scope = Scope::new(alloc, false);
+    let mut scope = RuleScope::new(alloc, false);
     scope.add(alloc, "a", Meaning::Number(1))?;
     scope.add(alloc, name, Meaning::Word(1))
 }
@@ -251,7 +251,7 @@ fn a_scope_takes_each_name_once(rt: HostRuntime) {
 }
 
 /// The mistake in a text.
-fn mistake_in(alloc: Global, scope: &Scope, text: &str) -> Result<Mistake, Fail> {
+fn mistake_in(alloc: Global, scope: &RuleScope, text: &str) -> Result<ReadMistake, Fail> {
     match read_rule(alloc, scope, text) {
         Err(ReadError::Mistaken(mistake)) => Ok(mistake),
         _ => Err(Fail::from("a mistake was wanted")),
@@ -260,10 +260,10 @@ fn mistake_in(alloc: Global, scope: &Scope, text: &str) -> Result<Mistake, Fail>
 
 #[test]
 fn a_draw_wants_the_word_key(rt: HostRuntime) -> Result<(), Fail> {
-    let mut scope = Scope::new(rt.alloc(), false);
+    let mut scope = RuleScope::new(rt.alloc(), false);
     assert!(rt; scope.add(rt.alloc(), "a", Meaning::Number(1)).is_ok());
     let mistake = mistake_in(rt.alloc(), &scope, "let b = draw(a)")?;
-    assert!(rt; matches!(&mistake.kind, Kind::Kept(_)));
+    assert!(rt; matches!(&mistake.kind, MistakeKind::Kept(_)));
     assert_eq!(rt;
         format!(in rt.alloc(); "{mistake}")?.as_str(),
         "line 1, column 9: draw wants the word key in the state"

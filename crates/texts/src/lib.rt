@@ -23,6 +23,6 @@ pub use model_file::{
 };
 pub use names::{Column, Kind, Names, Sort};
 pub use printable::Printable;
-pub use report::Report;
+pub use report::MistakeReport;
 pub use settings::{SettingFault, SettingsFault, with_settings};
 pub use text::{write_log, write_message, write_number, write_text, write_world};

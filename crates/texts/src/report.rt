@@ -18,7 +18,7 @@ use std::fmt;
 /// If the file has it with escapes, the line and the column are those in the text. A mistake of a
 /// name in a list or a table has the place of the name, or of its value.
 #[derive(Clone, Copy)]
-pub struct Report<'a> {
+pub struct MistakeReport<'a> {
     /// The path of the file.
     pub path: &'a str,
     /// What the file holds.
@@ -52,7 +52,7 @@ struct Pair<'a> {
     written: &'a str,
 }
 
-impl fmt::Display for Report<'_> {
+impl fmt::Display for MistakeReport<'_> {
     fn fmt<W: fmt::Write>(&self, f: &mut fmt::Formatter<W>) -> fmt::Result {
         match self.mistakes {
             Mistakes::Toml { line, column, why } => self.write_error(
@@ -76,7 +76,7 @@ impl fmt::Display for Report<'_> {
     }
 }
 
-impl Report<'_> {
+impl MistakeReport<'_> {
     /// Writes why the text is not TOML.
     fn write_error<W: fmt::Write>(
         &self,

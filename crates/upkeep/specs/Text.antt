@@ -2,6 +2,7 @@
 use Rattle.std.specs.Prelude.{ℕ, ◌+◌, ◌-◌, ◌*◌, ◌/◌, ◌^◌, ◌==◌, ◌||◌, nat_le, min, if◌then◌else◌}
 use Rattle.std.specs.Prelude.{List, [], ◌∷◌, ◌++◌, codes, decimal, Option, Some, None}
 use Rattle.upkeep.specs.declared.inspection.inspecting.Inspection.{Inspection}
+use Rattle.disk.specs.Disk.{sector_bytes}
 
 -- 1. Numbers
 
@@ -15,7 +16,7 @@ percent time end = if end == 0 then 0 else min (time * 100 / end) most
 
 -- the bytes of these sectors per event, rounded up; there is at least one event
 abbrev pub bytes_each : ℕ → ℕ → ℕ
-bytes_each sectors events = min ((sectors * 512 + (events - 1)) / events) most
+bytes_each sectors events = min ((sectors * sector_bytes + (events - 1)) / events) most
 
 -- The time at which the free sectors are used up at the rate of the last commits. A disk with more
 -- sectors in use than it has counts as full.

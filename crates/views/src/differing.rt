@@ -3,6 +3,7 @@
 use crate::files::{open_disk, read_model_file};
 use cli::ModelFile;
 use commitlog::Log;
+use disk::Sector;
 use model::Model as Simulated;
 use recovery::end_of;
 use std::fmt;
@@ -92,7 +93,7 @@ where
 
 /// Returns the simulation in the header of a disk, sector 1; none if it does not begin as a header
 /// does.
-pub fn simulation_in(header: &[u8; 512]) -> Option<DiskSimulation> {
+pub fn simulation_in(header: &Sector) -> Option<DiskSimulation> {
     let (mark, fields) = header.split_at(8);
     if mark != b"TIMEWARP".as_slice() {
         return None;

@@ -20,7 +20,7 @@ use crate::levels::dump_on;
 use crate::looking::{first_of, found_among, time_of};
 use cli::{DrawArgs, ModelFile, most_sectors};
 use pictures::{
-    Diagram, Load, Row, View, diagram_of, load_of, read_rows, write_course, write_drawing,
+    Diagram, LoadMap, Row, View, diagram_of, load_of, read_rows, write_course, write_drawing,
     write_load,
 };
 use std::fs::{self, File};
@@ -176,7 +176,7 @@ fn load_before<M, R>(
     most: u32,
     before: u64,
     view: &View,
-) -> Result<Load, ViewFault>
+) -> Result<LoadMap, ViewFault>
 where
     M: Described,
     R: Files<File = File> + AllocGlobal,
@@ -189,7 +189,7 @@ where
 }
 
 /// Writes a heat map, and flushes the writer.
-fn write_heat_map<O: Write>(load: &Load, out: &mut O) -> Result<(), ViewFault>
+fn write_heat_map<O: Write>(load: &LoadMap, out: &mut O) -> Result<(), ViewFault>
     ensures written { (run : Run) (view : View) → IsLoad run view load.now →
         Writes (O.contents out.old) (O.contents out.new) result (load_text run view) }
     ensures fault { IsOkUnless result Output }

@@ -8,7 +8,7 @@ ghost use Rattle.views.specs.Reading.{BeginsWith, IsFoundOn};
 use crate::beginnings::{BegunDisk, events_before_origin};
 use crate::fault::ViewFault;
 use crate::files::open_disk;
-use disk::{DiskFault, SectorDisk};
+use disk::{DiskFault, LEAST_SECTORS, SECTOR_BYTES, SectorDisk};
 use model::{Continued, Model as Modelled};
 use segments::archiving::may_have_origin;
 use std::alloc::Global;
@@ -25,7 +25,10 @@ struct SectorFile {
 
 impl SectorSource for SectorFile {
     fn read_at(&mut self, first: u32, bytes: &mut [u8]) -> Result<(), DiskFault> {
-        match self.file.read_exact_at(bytes, u64::from(first) * 512) {
+        match self
+            .file
+            .read_exact_at(bytes, u64::from(first) * SECTOR_BYTES as u64)
+        {
             Ok(()) => Ok(()),
             Err(_) => Err(DiskFault::Device),
         }
@@ -104,8 +107,8 @@ where
 
 /// Returns the number of sectors of a disk of this many bytes: 8 to `most` whole ones.
 fn sectors_in(bytes: u64, most: u32) -> Option<u32> {
-    let sectors = u32::try_from(bytes / 512).ok()?;
-    if bytes % 512 != 0 || sectors < 8 || most < sectors {
+    let sectors = u32::try_from(bytes / SECTOR_BYTES as u64).ok()?;
+    if bytes % SECTOR_BYTES as u64 != 0 || sectors < LEAST_SECTORS || most < sectors {
         return None;
     }
     Some(sectors)

@@ -11,6 +11,7 @@ use Rattle.node.specs.declared.Reply.{Reply}
 use Rattle.wire.specs.declared.port.PortFault.{PortFault}
 use Rattle.wire.specs.declared.port.PortFault.TheVariants.{Peer, Wire}
 use Rattle.wire.specs.declared.port.WireFault.TheVariants as wire
+use Rattle.node.specs.Node.{most_nodes}
 
 -- The stage of a port: nothing is loaded, it waits for a parcel, it was posted one, or a call was
 -- refused.
@@ -38,7 +39,7 @@ pub record IsSamePort (old new : PortState) : Type 0 where
 -- the numbers of a load are in range
 pub record IsLoadInRange (load : Load) : Type 0 where
   pub node : load.node < load.nodes
-  pub nodes : load.nodes ≤ 64
+  pub nodes : load.nodes ≤ most_nodes
   pub some : 1 ≤ load.end
   pub end : load.end ≤ 2 ^ 40
   pub floor : load.floor ≤ load.end

@@ -5,7 +5,7 @@ ghost use Rattle.rule_files.specs.declared.grammar.lexemes.Placed.{Placed as Pla
 ghost use Rattle.rule_files.specs.Lexical.{Splits, belongs as belongs_to, digit_step, double as double_sign, is_counting, is_digit as is_digit_byte, is_letter as is_letter_byte, is_name, is_white as is_white_byte, lexemes_at, number_of, piece as piece_at, placed, run as run_of, sign_piece, single as single_sign, word_of};
 ghost use Rattle.rule_files.specs.ReadingValues.{Gives};
 
-use crate::grammar::stop::{Refusal, Stop, Wanted};
+use crate::grammar::stop::{ReadStop, Refusal, Wanted};
 use crate::grammar::token::Mark;
 use rules::Operator;
 use std::alloc::{AllocError, Global};
@@ -258,7 +258,7 @@ fn piece(bytes: &[u8]) -> Option<(Option<Lexeme>, usize)>
 ///
 /// `Refused` just where the text is not split so: a byte begins nothing, a name has more than 64 letters, or a number
 /// is no decimal number below 2^64 (`_` stands between two digits only). `left` counts the bytes from there on.
-pub fn tokens(alloc: Global, text: &str) -> Result<Vec<Placed>, Stop>
+pub fn tokens(alloc: Global, text: &str) -> Result<Vec<Placed>, ReadStop>
     ensures found { IfOk result (λ v. Splits 0 text.now v.items) }
     ensures only { (ts : List PlacedLexeme) → Splits 0 text.now ts → Gives (λ v. v.items) result (Some ts) }
 {
@@ -266,7 +266,7 @@ pub fn tokens(alloc: Global, text: &str) -> Result<Vec<Placed>, Stop>
 }
 
 /// The same of bytes, by one pass from the left.
-pub(crate) fn pieces(alloc: Global, text: &[u8]) -> Result<Vec<Placed>, Stop>
+pub(crate) fn pieces(alloc: Global, text: &[u8]) -> Result<Vec<Placed>, ReadStop>
     ensures { Gives (λ v. v.items) result (lexemes_at text.now) }
 {
     let mut tokens = Vec::new(alloc);
@@ -277,7 +277,7 @@ pub(crate) fn pieces(alloc: Global, text: &[u8]) -> Result<Vec<Placed>, Stop>
             return Ok(tokens);
         }
         let Some((found, length)) = piece(rest) else {
-            return Err(Stop::Refused(Refusal {
+            return Err(ReadStop::Refused(Refusal {
                 left: rest.len(),
                 wanted: Wanted::Lexeme,
             }));

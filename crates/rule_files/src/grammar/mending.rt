@@ -4,11 +4,13 @@
 ghost use Rattle.std.specs.Prelude.{◌≤◌, ◌≡◌, IfOk, OnOk, length};
 
 use crate::grammar::lexemes::{Placed, Run, pieces, run_length};
-use crate::grammar::mistakes::{Kind, Mistake, at, ends_statements, find_mistake, mistake_at};
-use crate::grammar::scope::Scope;
+use crate::grammar::mistakes::{
+    MistakeKind, ReadMistake, at, ends_statements, find_mistake, mistake_at,
+};
+use crate::grammar::scope::RuleScope;
 use crate::grammar::sends::wrong_send;
 use crate::grammar::statements::{begins, rule};
-use crate::grammar::stop::{Refusal, Stop, Wanted};
+use crate::grammar::stop::{ReadStop, Refusal, Wanted};
 use crate::grammar::token::{Mark, Token};
 use crate::grammar::words::{ON, part, words};
 use std::alloc::{AllocError, Global};
@@ -38,10 +40,10 @@ struct Cut {
 /// The mistakes of a text, from the one that a refusal names on.
 pub(crate) fn all_mistakes(
     alloc: Global,
-    scope: &Scope,
+    scope: &RuleScope,
     text: &str,
     refusal: Refusal,
-) -> Result<Vec<Mistake>, AllocError>
+) -> Result<Vec<ReadMistake>, AllocError>
     ensures { IfOk result (λ v. 1 ≤ length v.items) }
 {
     let mut found = Vec::new(alloc);
@@ -55,9 +57,9 @@ pub(crate) fn all_mistakes(
 /// Adds the further mistakes of a text.
 fn find_more(
     alloc: Global,
-    scope: &Scope,
+    scope: &RuleScope,
     text: &[u8],
-    found: &mut Vec<Mistake>,
+    found: &mut Vec<ReadMistake>,
 ) -> Result<(), AllocError>
     ensures { OnOk result (length found.old.items ≤ length found.new.items) }
 {
@@ -68,8 +70,8 @@ fn find_more(
     'turns: for _turn in 0..MOST_TURNS {
         let refusal = match rule(alloc, &draft.tokens) {
             Ok(_) => return add_sends(alloc, scope, text, &draft, found),
-            Err(Stop::Memory) => return Err(AllocError),
-            Err(Stop::Refused(refusal)) => refusal,
+            Err(ReadStop::Memory) => return Err(AllocError),
+            Err(ReadStop::Refused(refusal)) => refusal,
         };
         let mistake = mistake_at(alloc, scope, text, &draft.places, &draft.tokens, refusal)?;
         add(found, mistake)?;
@@ -87,10 +89,10 @@ fn find_more(
 /// Adds the mistakes of sends.
 fn add_sends(
     alloc: Global,
-    scope: &Scope,
+    scope: &RuleScope,
     text: &[u8],
     draft: &Draft,
-    found: &mut Vec<Mistake>,
+    found: &mut Vec<ReadMistake>,
 ) -> Result<(), AllocError>
     ensures { OnOk result (length found.old.items ≤ length found.new.items) }
 {
@@ -117,7 +119,7 @@ fn is_limit(wanted: Wanted) -> bool {
 }
 
 /// Adds a mistake, if there are few and none is on its line.
-fn add(found: &mut Vec<Mistake>, mistake: Mistake) -> Result<(), AllocError>
+fn add(found: &mut Vec<ReadMistake>, mistake: ReadMistake) -> Result<(), AllocError>
     ensures { OnOk result (length found.old.items ≤ length found.new.items) }
 {
     if found.len() >= MOST_MISTAKES || has_line(found, mistake.line) {
@@ -128,7 +130,7 @@ fn add(found: &mut Vec<Mistake>, mistake: Mistake) -> Result<(), AllocError>
 }
 
 /// Whether one of the mistakes is on this line.
-fn has_line(found: &[Mistake], line: usize) -> bool {
+fn has_line(found: &[ReadMistake], line: usize) -> bool {
     'found: for other in found {
         if other.line == line {
             return true;
@@ -141,9 +143,9 @@ fn has_line(found: &[Mistake], line: usize) -> bool {
 /// byte that begins nothing: these are mistakes. There are no tokens if they are too many.
 fn draft_of(
     alloc: Global,
-    scope: &Scope,
+    scope: &RuleScope,
     text: &[u8],
-    found: &mut Vec<Mistake>,
+    found: &mut Vec<ReadMistake>,
 ) -> Result<Option<Draft>, AllocError>
     ensures { OnOk result (length found.old.items ≤ length found.new.items) }
 {
@@ -154,11 +156,11 @@ fn draft_of(
                 let tokens = words(alloc, scope, &mended, &places)?;
                 return Ok(Some(Draft { tokens, places }));
             }
-            Err(Stop::Memory) => return Err(AllocError),
-            Err(Stop::Refused(refusal)) => refusal.left,
+            Err(ReadStop::Memory) => return Err(AllocError),
+            Err(ReadStop::Refused(refusal)) => refusal.left,
         };
         let place = text.len().saturating_sub(left);
-        add(found, at(text, place, Kind::Wanted(Wanted::Lexeme)))?;
+        add(found, at(text, place, MistakeKind::Wanted(Wanted::Lexeme)))?;
         mended = mended_at(alloc, &mended, place)?;
     }
     Ok(None)

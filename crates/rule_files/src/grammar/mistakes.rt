@@ -1,8 +1,8 @@
 // Where a text stops being a rule, and what was wanted there. No clause speaks of it: tests hold it.
 
 use crate::grammar::lexemes::{Lexeme, Placed, pieces};
-use crate::grammar::scope::Scope;
-use crate::grammar::stop::{Refusal, Stop, Wanted};
+use crate::grammar::scope::RuleScope;
+use crate::grammar::stop::{ReadStop, Refusal, Wanted};
 use crate::grammar::token::{Mark, Token};
 use crate::grammar::words::{ON, part, words};
 use rules::{Law, Operator};
@@ -12,7 +12,7 @@ use strsim::levenshtein;
 
 /// What is wrong at a place of a text.
 #[derive(Debug, Drop)]
-pub enum Kind {
+pub enum MistakeKind {
     /// There is nothing of this name; the nearest one that there is.
     Unknown(String, Option<String>),
     /// A name that rules neither read nor set.
@@ -37,35 +37,35 @@ pub enum Kind {
 
 /// A place where a text stops being a rule.
 #[derive(Debug, Drop)]
-pub struct Mistake {
+pub struct ReadMistake {
     /// The line, from 1.
     pub line: usize,
     /// The column, from 1, in characters.
     pub column: usize,
     /// What is wrong there.
-    pub kind: Kind,
+    pub kind: MistakeKind,
 }
 
 /// The mistake that a refusal names.
 pub(crate) fn find_mistake(
     alloc: Global,
-    scope: &Scope,
+    scope: &RuleScope,
     text: &str,
     refusal: Refusal,
-) -> Result<Mistake, AllocError> {
+) -> Result<ReadMistake, AllocError> {
     let bytes = text.as_bytes();
     if refusal.wanted == Wanted::LessText {
-        return Ok(Mistake {
+        return Ok(ReadMistake {
             line: 1,
             column: 1,
-            kind: Kind::Wanted(refusal.wanted),
+            kind: MistakeKind::Wanted(refusal.wanted),
         });
     }
     if refusal.wanted == Wanted::Lexeme {
         return Ok(at(
             bytes,
             bytes.len().saturating_sub(refusal.left),
-            Kind::Wanted(refusal.wanted),
+            MistakeKind::Wanted(refusal.wanted),
         ));
     }
     let lexemes = match pieces(alloc, bytes) {
@@ -79,35 +79,35 @@ pub(crate) fn find_mistake(
 /// The mistake that a refusal of one of these tokens names, whose places in the text are those of the lexemes.
 pub(crate) fn mistake_at(
     alloc: Global,
-    scope: &Scope,
+    scope: &RuleScope,
     bytes: &[u8],
     lexemes: &[Placed],
     tokens: &[Token],
     refusal: Refusal,
-) -> Result<Mistake, AllocError> {
+) -> Result<ReadMistake, AllocError> {
     let index = tokens.len().saturating_sub(refusal.left);
     if ends_statements(refusal.wanted) && is_on_without_sort(scope, tokens, index) {
         let place = match lexemes.get(index.saturating_add(1)) {
             Some(lexeme) => lexeme.start,
             None => bytes.len(),
         };
-        return Ok(at(bytes, place, Kind::Wanted(Wanted::Sort)));
+        return Ok(at(bytes, place, MistakeKind::Wanted(Wanted::Sort)));
     }
     match (lexemes.get(index), tokens.get(index)) {
         (Some(lexeme), Some(_)) if is_set(tokens, index, refusal.wanted) => {
             let name = owned(alloc, part(bytes, lexeme.start, lexeme.end))?;
-            Ok(at(bytes, lexeme.start, Kind::Fixed(name)))
+            Ok(at(bytes, lexeme.start, MistakeKind::Fixed(name)))
         }
         (Some(lexeme), Some(token)) => {
             let kind = kind_at(alloc, scope, bytes, lexeme, token, refusal.wanted)?;
             Ok(at(bytes, lexeme.start, kind))
         }
-        _ => Ok(at(bytes, bytes.len(), Kind::End(refusal.wanted))),
+        _ => Ok(at(bytes, bytes.len(), MistakeKind::End(refusal.wanted))),
     }
 }
 
 /// Whether `on` stands where a sort was wanted after it.
-fn is_on_without_sort(scope: &Scope, tokens: &[Token], index: usize) -> bool {
+fn is_on_without_sort(scope: &RuleScope, tokens: &[Token], index: usize) -> bool {
     let next_is_sign = matches!(
         tokens.get(index.saturating_add(1)),
         Some(Token::Mark(Mark::Is)) | Some(Token::Sort(_))
@@ -142,38 +142,38 @@ fn is_set(tokens: &[Token], index: usize, wanted: Wanted) -> bool {
 /// What is wrong at a token.
 fn kind_at(
     alloc: Global,
-    scope: &Scope,
+    scope: &RuleScope,
     text: &[u8],
     lexeme: &Placed,
     token: &Token,
     wanted: Wanted,
-) -> Result<Kind, AllocError> {
+) -> Result<MistakeKind, AllocError> {
     let name = part(text, lexeme.start, lexeme.end);
     if let Wanted::Words(has, given) = wanted {
-        return Ok(Kind::Words(owned(alloc, name)?, has, given));
+        return Ok(MistakeKind::Words(owned(alloc, name)?, has, given));
     }
     let is_read = wanted == Wanted::Value || ends_statements(wanted);
     match *token {
         Token::Own(own) if wanted == Wanted::Process => {
             let kind = scope.kind_of(own).unwrap_or("KIND".as_bytes());
-            Ok(Kind::Place(owned(alloc, kind)?))
+            Ok(MistakeKind::Place(owned(alloc, kind)?))
         }
-        Token::Mark(Mark::Kept) => Ok(Kind::Kept(owned(alloc, name)?)),
+        Token::Mark(Mark::Kept) => Ok(MistakeKind::Kept(owned(alloc, name)?)),
         Token::Name(_) if is_read => {
             let near = nearest(alloc, scope, name)?;
-            Ok(Kind::Unknown(owned(alloc, name)?, near))
+            Ok(MistakeKind::Unknown(owned(alloc, name)?, near))
         }
         Token::Sign(operator) if is_comparison(operator) && ends_statements(wanted) => Ok(
-            Kind::Chain,
+            MistakeKind::Chain,
         ),
         _ if lexeme.lexeme == Lexeme::Name && wanted == Wanted::NewName => {
             let name = owned(alloc, name)?;
             Ok(match *token {
-                Token::Mark(_) | Token::Known(_) | Token::Own(_) => Kind::Reserved(name),
-                _ => Kind::InUse(name),
+                Token::Mark(_) | Token::Known(_) | Token::Own(_) => MistakeKind::Reserved(name),
+                _ => MistakeKind::InUse(name),
             })
         }
-        _ => Ok(Kind::Wanted(wanted)),
+        _ => Ok(MistakeKind::Wanted(wanted)),
     }
 }
 
@@ -199,7 +199,7 @@ fn owned(alloc: Global, name: &[u8]) -> Result<String, AllocError> {
 }
 
 /// The name of the scope that is nearest to this one, if at most two letters differ.
-fn nearest(alloc: Global, scope: &Scope, name: &[u8]) -> Result<Option<String>, AllocError> {
+fn nearest(alloc: Global, scope: &RuleScope, name: &[u8]) -> Result<Option<String>, AllocError> {
     let name = owned(alloc, name)?;
     let mut best: Option<String> = None;
     let mut least: usize = 3;
@@ -215,7 +215,7 @@ fn nearest(alloc: Global, scope: &Scope, name: &[u8]) -> Result<Option<String>, 
 }
 
 /// The mistake at a byte of the text.
-pub(crate) fn at(text: &[u8], byte: usize, kind: Kind) -> Mistake {
+pub(crate) fn at(text: &[u8], byte: usize, kind: MistakeKind) -> ReadMistake {
     let mut line: usize = 1;
     let mut column: usize = 1;
     'bytes: for (i, b) in text.iter().enumerate() {
@@ -230,31 +230,31 @@ pub(crate) fn at(text: &[u8], byte: usize, kind: Kind) -> Mistake {
             column = column.saturating_add(1);
         }
     }
-    Mistake { line, column, kind }
+    ReadMistake { line, column, kind }
 }
 
-impl fmt::Display for Mistake {
+impl fmt::Display for ReadMistake {
     fn fmt<W: fmt::Write>(&self, f: &mut fmt::Formatter<W>) -> fmt::Result {
-        let Mistake { line, column, kind } = self;
+        let ReadMistake { line, column, kind } = self;
         write!(f, "line {line}, column {column}: {kind}")
     }
 }
 
-impl fmt::Display for Kind {
+impl fmt::Display for MistakeKind {
     fn fmt<W: fmt::Write>(&self, f: &mut fmt::Formatter<W>) -> fmt::Result {
         match self {
-            Kind::Unknown(name, Some(near)) => {
+            MistakeKind::Unknown(name, Some(near)) => {
                 let (name, near) = (name.as_str(), near.as_str());
                 write!(
                     f,
                     "there is nothing named \"{name}\"; did you mean \"{near}\"?"
                 )
             }
-            Kind::Unknown(name, None) => {
+            MistakeKind::Unknown(name, None) => {
                 let name = name.as_str();
                 write!(f, "there is nothing named \"{name}\"")
             }
-            Kind::Kept(name) => {
+            MistakeKind::Kept(name) => {
                 let name = name.as_str();
                 if name == "key" {
                     f.write_str("\"key\" is neither read nor set")
@@ -262,33 +262,33 @@ impl fmt::Display for Kind {
                     write!(f, "{name} wants the word key in the state")
                 }
             }
-            Kind::InUse(name) => {
+            MistakeKind::InUse(name) => {
                 let name = name.as_str();
                 write!(f, "the name \"{name}\" is in use")
             }
-            Kind::Reserved(name) => {
+            MistakeKind::Reserved(name) => {
                 let name = name.as_str();
                 write!(f, "\"{name}\" is a word of the language")
             }
-            Kind::Fixed(name) => {
+            MistakeKind::Fixed(name) => {
                 let name = name.as_str();
                 write!(
                     f,
                     "\"{name}\" is a name of let or repeat, and only words of the state are set"
                 )
             }
-            Kind::Chain => f.write_str("comparisons do not chain: use brackets"),
-            Kind::Place(kind) => {
+            MistakeKind::Chain => f.write_str("comparisons do not chain: use brackets"),
+            MistakeKind::Place(kind) => {
                 let kind = kind.as_str();
                 write!(f, "a process of this kind is {kind}[self]")
             }
-            Kind::Words(sort, has, given) => {
+            MistakeKind::Words(sort, has, given) => {
                 let sort = sort.as_str();
                 let plural = if *has == 1 { "" } else { "s" };
                 write!(f, "{sort} has {has} word{plural}, not {given}")
             }
-            Kind::End(wanted) => write!(f, "the text ends, but {wanted}"),
-            Kind::Wanted(wanted) => write!(f, "{wanted}"),
+            MistakeKind::End(wanted) => write!(f, "the text ends, but {wanted}"),
+            MistakeKind::Wanted(wanted) => write!(f, "{wanted}"),
         }
     }
 }

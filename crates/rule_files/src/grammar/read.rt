@@ -7,11 +7,11 @@ ghost use Rattle.rule_files.specs.Texts.{IsRule, SomeRule, Yields, formed_at, re
 
 use crate::grammar::lexemes::pieces;
 use crate::grammar::mending::all_mistakes;
-use crate::grammar::mistakes::{Mistake, find_mistake};
-use crate::grammar::scope::Scope;
+use crate::grammar::mistakes::{ReadMistake, find_mistake};
+use crate::grammar::scope::RuleScope;
 use crate::grammar::sends::first_wrong;
 use crate::grammar::statements::rule;
-use crate::grammar::stop::{Refusal, Stop, Wanted};
+use crate::grammar::stop::{ReadStop, Refusal, Wanted};
 use crate::grammar::token::Token;
 use crate::grammar::words::words;
 use rules::Statement;
@@ -26,7 +26,7 @@ pub enum ReadError {
     Memory,
     /// The text is no rule.
     #[error("{0}")]
-    Mistaken(Mistake),
+    Mistaken(ReadMistake),
 }
 
 /// The most bytes that a rule's text may have.
@@ -34,23 +34,23 @@ const MOST_BYTES: usize = 65_536;
 
 /// The statements that tokens form, with each send right, or where they stop being those.
 #[tactic(auto, unfolding(crate::specs::Texts::formed_at))]
-fn formed(alloc: Global, sorted: bool, tokens: &[Token]) -> Result<Vec<Statement>, Stop>
+fn formed(alloc: Global, sorted: bool, tokens: &[Token]) -> Result<Vec<Statement>, ReadStop>
     ensures { Gives (λ v. acts_of v.items) result (formed_at sorted tokens.now) }
 {
     let statements = rule(alloc, tokens)?;
     match first_wrong(sorted, tokens) {
         None => Ok(statements),
-        Some(refusal) => Err(Stop::Refused(refusal)),
+        Some(refusal) => Err(ReadStop::Refused(refusal)),
     }
 }
 
 /// The statements of a rule, or where it stops being one.
 #[tactic(auto, unfolding(crate::specs::Texts::read_at))]
-fn read(alloc: Global, scope: &Scope, text: &str) -> Result<Vec<Statement>, Stop>
+fn read(alloc: Global, scope: &RuleScope, text: &str) -> Result<Vec<Statement>, ReadStop>
     ensures { Gives (λ v. acts_of v.items) result (read_at scope.now text.now) }
 {
     if text.len() > MOST_BYTES {
-        return Err(Stop::Refused(Refusal {
+        return Err(ReadStop::Refused(Refusal {
             left: 0,
             wanted: Wanted::LessText,
         }));
@@ -67,7 +67,7 @@ fn read(alloc: Global, scope: &Scope, text: &str) -> Result<Vec<Statement>, Stop
 /// `Mistaken` just where the text is no rule: it has more than 65,536 bytes, is not of names, numbers and signs, is
 /// not by the grammar, or has a `send` whose receiver is no process (`self` of a kind outside `[ ]`) or whose content is
 /// not a sort and its words, where there are sorts; with a place and what was expected there.
-pub fn read_rule(alloc: Global, scope: &Scope, text: &str) -> Result<Vec<Statement>, ReadError>
+pub fn read_rule(alloc: Global, scope: &RuleScope, text: &str) -> Result<Vec<Statement>, ReadError>
     // What is read is what the text means.
     ensures found { IfOk result (λ v. IsRule scope.now text.now (acts_of v.items)) }
     // What the text means is read, unless memory runs out.
@@ -75,8 +75,8 @@ pub fn read_rule(alloc: Global, scope: &Scope, text: &str) -> Result<Vec<Stateme
 {
     match read(alloc, scope, text) {
         Ok(statements) => Ok(statements),
-        Err(Stop::Memory) => Err(ReadError::Memory),
-        Err(Stop::Refused(refusal)) => Err(mistaken(alloc, scope, text, refusal)),
+        Err(ReadStop::Memory) => Err(ReadError::Memory),
+        Err(ReadStop::Refused(refusal)) => Err(mistaken(alloc, scope, text, refusal)),
     }
 }
 
@@ -84,7 +84,11 @@ pub fn read_rule(alloc: Global, scope: &Scope, text: &str) -> Result<Vec<Stateme
 ///
 /// After a refused statement it goes on at the next line that begins one, or at the next `}`, as if the statement were
 /// right: its name, if it gives one, is in scope.
-pub fn find_mistakes(alloc: Global, scope: &Scope, text: &str) -> Result<Vec<Mistake>, AllocError>
+pub fn find_mistakes(
+    alloc: Global,
+    scope: &RuleScope,
+    text: &str,
+) -> Result<Vec<ReadMistake>, AllocError>
     // A rule has none.
     ensures none { (acts : Acts) → IsRule scope.now text.now acts → IfOk result (λ v. v.items ≡ []) }
     // What has none is a rule.
@@ -92,13 +96,13 @@ pub fn find_mistakes(alloc: Global, scope: &Scope, text: &str) -> Result<Vec<Mis
 {
     match read(alloc, scope, text) {
         Ok(_statements) => Ok(Vec::new(alloc)),
-        Err(Stop::Memory) => Err(AllocError),
-        Err(Stop::Refused(refusal)) => all_mistakes(alloc, scope, text, refusal),
+        Err(ReadStop::Memory) => Err(AllocError),
+        Err(ReadStop::Refused(refusal)) => all_mistakes(alloc, scope, text, refusal),
     }
 }
 
 /// The error of a text that is no rule.
-fn mistaken(alloc: Global, scope: &Scope, text: &str, refusal: Refusal) -> ReadError {
+fn mistaken(alloc: Global, scope: &RuleScope, text: &str, refusal: Refusal) -> ReadError {
     match find_mistake(alloc, scope, text, refusal) {
         Ok(mistake) => ReadError::Mistaken(mistake),
         Err(_) => ReadError::Memory,

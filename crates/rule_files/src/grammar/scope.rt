@@ -8,7 +8,7 @@ ghost use Rattle.rule_files.specs.Scopes.{dictionary_of, drawing_word, any_sort,
 ghost use Rattle.rule_files.specs.declared.grammar.scope.ScopeError.TheVariants.{Memory, InUse, NotAName};
 
 use crate::grammar::lexemes::is_whole_name;
-use crate::grammar::token::{Mark, Sort, Token};
+use crate::grammar::token::{Mark, SortToken, Token};
 use rules::{Array, Known, Law};
 use std::alloc::{AllocError, AllocFailed, Global};
 use thiserror::Error;
@@ -53,7 +53,7 @@ impl Meaning {
             Meaning::Table(place) => Token::Table(place),
             Meaning::Array(array) => Token::Array(array),
             Meaning::Kind { first, count } => Token::Kind(first, count),
-            Meaning::Sort { number, words } => Token::Sort(Sort { number, words }),
+            Meaning::Sort { number, words } => Token::Sort(SortToken { number, words }),
         }
     }
 }
@@ -81,13 +81,13 @@ struct Entry {
 
 /// What the names of a model file mean in its rules, each one thing.
 #[derive(Debug, Drop)]
-pub struct Scope {
+pub struct RuleScope {
     draws: bool,
     own: Option<u32>,
     entries: Vec<Entry>,
 }
 
-impl std::marker::Model for Scope {
+impl std::marker::Model for RuleScope {
     ghost use Rattle.rule_files.specs.Scopes.{Dictionary, dictionary_of};
 
     ghost Value = { Dictionary };
@@ -192,12 +192,12 @@ fn word_of_value(draws: bool, own: Option<u32>, name: &[u8]) -> Option<Token>
     None
 }
 
-impl Scope {
+impl RuleScope {
     /// The scope of a model file without names; `draws` says whether the state has `key`, so that rules may draw.
-    pub fn new(alloc: Global, draws: bool) -> Scope
+    pub fn new(alloc: Global, draws: bool) -> RuleScope
         ensures { result ≡ record { draws = draws; own = None; entries = [] } }
     {
-        Scope {
+        RuleScope {
             draws,
             own: None,
             entries: Vec::new(alloc),
@@ -206,10 +206,10 @@ impl Scope {
 
     /// The same for the rules of one kind of processes, of which this one is the first: there `self` is the place of
     /// the process within the kind.
-    pub fn of_kind(alloc: Global, draws: bool, first: u32) -> Scope
+    pub fn of_kind(alloc: Global, draws: bool, first: u32) -> RuleScope
         ensures { result ≡ record { draws = draws; own = Some first; entries = [] } }
     {
-        Scope {
+        RuleScope {
             draws,
             own: Some(first),
             entries: Vec::new(alloc),

@@ -6,8 +6,8 @@ ghost use Rattle.rule_files.specs.ReadingValues.{Gives};
 ghost use Rattle.rule_files.specs.ReadingStatements.{assignment as assignment_at, begins as begins_at, block_at, case_at, case_with, cases as cases_at, choice_at, choice_with, content as content_at, contents as contents_at, count_at, first_at, further as further_at, in_braces, naming as naming_at, new_name as new_name_at, otherwise as otherwise_at, placing as placing_at, repeated as repeated_at, repetition as repetition_at, rule_at, sending as sending_at, sort_at, statements_at, until_at, with_name as with_name_of};
 ghost use Rattle.rule_files.specs.Statements.{If, Repeat, RepeatUntil, act_of, acts_of, is_of_sort as is_of};
 
-use crate::grammar::stop::{Stop, Wanted, refused};
-use crate::grammar::token::{Mark, Sort, Token};
+use crate::grammar::stop::{ReadStop, Wanted, refused};
+use crate::grammar::token::{Mark, SortToken, Token};
 use crate::grammar::values::{Reads, behind, expect, first, place, value};
 use crate::grammar::words::{ON, UNTIL};
 use rules::{Array, Expression, Operator, Sending, Statement};
@@ -27,7 +27,7 @@ const MOST_LINKS: u32 = 1024;
 
 /// The statements that all of these tokens form.
 #[tactic(auto, unfolding(crate::specs::ReadingStatements::rule_at))]
-pub(crate) fn rule(alloc: Global, tokens: &[Token]) -> Result<Vec<Statement>, Stop>
+pub(crate) fn rule(alloc: Global, tokens: &[Token]) -> Result<Vec<Statement>, ReadStop>
     ensures { Gives (λ v. acts_of v.items) result (rule_at tokens.now) }
 {
     let (statements, rest) = row(alloc, &[], MOST_LINKS, MOST_BLOCKS, tokens)?;
@@ -38,7 +38,7 @@ pub(crate) fn rule(alloc: Global, tokens: &[Token]) -> Result<Vec<Statement>, St
 }
 
 /// The sort after `on`, where they come first, and the tokens after it.
-fn sort<'a>(tokens: &'a [Token]) -> Option<(Sort, &'a [Token])>
+fn sort<'a>(tokens: &'a [Token]) -> Option<(SortToken, &'a [Token])>
     ensures { MatchOption result (sort_at tokens.now ≡ None) (λ p. sort_at tokens.now ≡ Some (p.0, p.1.now)) }
 {
     match first(tokens) {
@@ -342,7 +342,7 @@ fn cases<'a>(
 }
 
 /// Whether the first word of the content is the number of a sort.
-fn is_of_sort(alloc: Global, sort: Sort) -> Result<Expression, AllocError>
+fn is_of_sort(alloc: Global, sort: SortToken) -> Result<Expression, AllocError>
     ensures { IfOk result (λ e. tree_of e ≡ is_of sort) }
 {
     let word = Box::new(alloc, Expression::Content(0))?;
@@ -357,7 +357,7 @@ fn case<'a>(
     names: &[usize],
     links: u32,
     depth: u32,
-    sort: Sort,
+    sort: SortToken,
     tokens: &'a [Token],
 ) -> Reads<'a, Statement>
     requires { length names.now ≤ 16 }
@@ -396,7 +396,7 @@ fn nested_case<'a>(
     names: &[usize],
     links: u32,
     depth: u32,
-    sort: Sort,
+    sort: SortToken,
     tokens: &'a [Token],
 ) -> Reads<'a, Statement>
     requires { length names.now ≤ 16 }

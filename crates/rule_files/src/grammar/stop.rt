@@ -1,7 +1,7 @@
 //! Why reading stops.
 
 ghost use Rattle.std.specs.Prelude.{◌≡◌, length};
-ghost use Rattle.rule_files.specs.declared.grammar.stop.Stop.TheVariants.{Memory, Refused};
+ghost use Rattle.rule_files.specs.declared.grammar.stop.ReadStop.TheVariants.{Memory, Refused};
 
 use crate::grammar::token::{Mark, Token};
 use std::alloc::{AllocError, AllocFailed};
@@ -54,7 +54,7 @@ pub struct Refusal {
 
 /// Why reading stops.
 #[derive(Clone, Copy, Debug, PartialEq, Eq)]
-pub enum Stop {
+pub enum ReadStop {
     /// An allocation failed.
     Memory,
     /// The tokens form nothing.
@@ -70,27 +70,27 @@ pub(crate) fn at_first(tokens: &[Token], wanted: Wanted) -> Refusal {
 }
 
 /// Refuses the first of these tokens.
-pub(crate) fn refused(tokens: &[Token], wanted: Wanted) -> Stop
+pub(crate) fn refused(tokens: &[Token], wanted: Wanted) -> ReadStop
     ensures { result ≡ Refused (record { left = length tokens.now; wanted = wanted }) }
 {
-    Stop::Refused(Refusal {
+    ReadStop::Refused(Refusal {
         left: tokens.len(),
         wanted,
     })
 }
 
-impl From<AllocError> for Stop {
+impl From<AllocError> for ReadStop {
     ghost from_gives = { λ _ e. e ≡ Memory };
 
-    fn from(_e: AllocError) -> Stop {
-        Stop::Memory
+    fn from(_e: AllocError) -> ReadStop {
+        ReadStop::Memory
     }
 }
 
-impl<T: Drop> From<AllocFailed<T>> for Stop {
+impl<T: Drop> From<AllocFailed<T>> for ReadStop {
     ghost from_gives = { λ _ e. e ≡ Memory };
 
-    fn from(_e: AllocFailed<T>) -> Stop {
-        Stop::Memory
+    fn from(_e: AllocFailed<T>) -> ReadStop {
+        ReadStop::Memory
     }
 }

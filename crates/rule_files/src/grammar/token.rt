@@ -26,14 +26,14 @@ pub enum Token {
     /// `self` in a scope of a kind, by the first process of the kind.
     Own(u32),
     /// A sort of messages.
-    Sort(Sort),
+    Sort(SortToken),
     /// A name that the scope lacks; equal names have equal numbers.
     Name(usize),
 }
 
 /// A sort of messages.
 #[derive(Clone, Copy, Debug, PartialEq, Eq)]
-pub struct Sort {
+pub struct SortToken {
     /// Its number, the first word of a message.
     pub number: u64,
     /// How many words stand after its number.

@@ -5,13 +5,13 @@ ghost use Rattle.rule_files.specs.Grammar.{Normal, Two, code, height as height_o
 ghost use Rattle.rule_files.specs.declared.grammar.token.Mark.TheVariants as m;
 ghost use Rattle.rule_files.specs.ReadingValues.{Gives, and_rest, behind as behind_mark, chain as chained, chosen_at, enclosed as enclosed_at, inside, level as level_at, made, by_mark, of_kind, pair_at, primary as primary_at, sign_at, table_at, three_at, turns as turns_of, value_at};
 
-use crate::grammar::stop::{Stop, Wanted, refused};
+use crate::grammar::stop::{ReadStop, Wanted, refused};
 use crate::grammar::token::{Mark, Token};
 use rules::{Expression, Known, Law, Operator};
 use std::alloc::Global;
 
 /// What was read, and the tokens after it.
-pub(crate) type Reads<'a, T> = Result<(T, &'a [Token]), Stop>;
+pub(crate) type Reads<'a, T> = Result<(T, &'a [Token]), ReadStop>;
 
 /// How loosely an operator binds, from 1; 0 for those that are no signs.
 fn looseness(operator: Operator) -> u32
@@ -107,7 +107,7 @@ pub(crate) fn behind<'a>(mark: Mark, tokens: &'a [Token]) -> Option<&'a [Token]>
 }
 
 /// The tokens after this mark, which has to come first.
-pub(crate) fn expect<'a>(mark: Mark, tokens: &'a [Token]) -> Result<&'a [Token], Stop>
+pub(crate) fn expect<'a>(mark: Mark, tokens: &'a [Token]) -> Result<&'a [Token], ReadStop>
     ensures { Gives (λ rest. rest.now) result (behind_mark mark tokens.now) }
 {
     match behind(mark, tokens) {

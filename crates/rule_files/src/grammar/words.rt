@@ -4,7 +4,7 @@ ghost use Rattle.std.specs.Prelude.{◌≡◌, ◌-◌, IfOk, drop, take};
 ghost use Rattle.rule_files.specs.Scopes.{first_place as place_at, is_same_name, name_number, token_by, token_of, tokens_of};
 
 use crate::grammar::lexemes::{Lexeme, Placed};
-use crate::grammar::scope::Scope;
+use crate::grammar::scope::RuleScope;
 use crate::grammar::token::Token;
 use std::alloc::{AllocError, Global};
 
@@ -60,7 +60,7 @@ fn number(text: &[u8], letters: &[u8], all: &[Placed]) -> usize
 }
 
 /// What a lexeme means.
-fn token(scope: &Scope, text: &[u8], all: &[Placed], one: &Placed) -> Token
+fn token(scope: &RuleScope, text: &[u8], all: &[Placed], one: &Placed) -> Token
     ensures { result ≡ token_of scope.now text.now all.now one.now }
 {
     match one.lexeme {
@@ -80,7 +80,7 @@ fn token(scope: &Scope, text: &[u8], all: &[Placed], one: &Placed) -> Token
 /// What the lexemes of a text mean.
 pub(crate) fn words(
     alloc: Global,
-    scope: &Scope,
+    scope: &RuleScope,
     text: &[u8],
     all: &[Placed],
 ) -> Result<Vec<Token>, AllocError>

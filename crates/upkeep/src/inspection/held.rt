@@ -2,9 +2,10 @@
 ghost use Rattle.std.specs.Prelude.{◌≡◌, ◌<◌, ◌^◌, ◌++◌, ◌∷◌, [], true, false, length, replicate};
 ghost use Rattle.std.specs.Prelude.{slice_set, slice_index_or, IfOk, IfSome};
 ghost use Rattle.std.specs.Prelude.{OnSome, IfNone};
-ghost use Rattle.disk.specs.Disk.{IsSector};
+ghost use Rattle.disk.specs.Disk.{IsSector, zero_sector};
 ghost use Rattle.upkeep.specs.Part.{AreSectors};
 
+use disk::{SECTOR_BYTES, Sector};
 use std::alloc::{AllocError, Global};
 use std::marker::Model;
 
@@ -15,7 +16,7 @@ pub(crate) struct Held {
     /// For each sector its place in `kept`; 0 if it is not held.
     places: Vec<u32>,
     /// A sector of zeros, and then the held ones.
-    kept: Vec<[u8; 512]>,
+    kept: Vec<Sector>,
 }
 
 impl Model for Held {
@@ -36,11 +37,11 @@ fn no_places(alloc: Global, count: u32) -> Result<Vec<u32>, AllocError>
 }
 
 /// Returns a sector of zeros.
-fn one_sector(alloc: Global) -> Result<Vec<[u8; 512]>, AllocError>
-    ensures items { IfOk result (λ kept. kept.items ≡ replicate 512 0 ∷ []) }
+fn one_sector(alloc: Global) -> Result<Vec<Sector>, AllocError>
+    ensures items { IfOk result (λ kept. kept.items ≡ zero_sector ∷ []) }
     ensures whole { IfOk result (λ kept. AreSectors kept.items) }
 {
-    let zeros = [0; 512];
+    let zeros = [0; SECTOR_BYTES];
     is_sector(zeros);
     let mut kept = Vec::with_capacity(alloc, 1)?;
     kept.push(zeros)?;
@@ -50,7 +51,7 @@ fn one_sector(alloc: Global) -> Result<Vec<[u8; 512]>, AllocError>
 impl Held {
     /// Returns `count` sectors, none of them held.
     pub(crate) fn none(alloc: Global, count: u32) -> Result<Held, AllocError>
-        ensures items { IfOk result (λ all. all.items ≡ replicate count (replicate 512 0)) }
+        ensures items { IfOk result (λ all. all.items ≡ replicate count zero_sector) }
         ensures held { IfOk result (λ all. all.held ≡ replicate count false) }
         ensures count { IfOk result (λ all. length all.items ≡ count) }
     {
@@ -69,7 +70,7 @@ impl Held {
     }
 
     /// Returns the content of a sector, if it is held.
-    pub(crate) fn get(&self, n: u32) -> Option<&[u8; 512]>
+    pub(crate) fn get(&self, n: u32) -> Option<&Sector>
         ensures content { IfSome result (λ sector. slice_index_or self.now.items n [] ≡ sector.now) }
         ensures held { OnSome result (slice_index_or self.now.held n false ≡ true) }
         ensures none { IfNone result (slice_index_or self.now.held n false ≡ false) }
@@ -83,7 +84,7 @@ impl Held {
 
     /// Holds this content of a sector. If that sector is held, its content stays. Returns `None` if
     /// there is no such sector, or an allocation failed.
-    pub(crate) fn put(&mut self, n: usize, sector: &[u8; 512]) -> Option<()>
+    pub(crate) fn put(&mut self, n: usize, sector: &Sector) -> Option<()>
         ensures first { OnSome result (slice_index_or self.old.held n false ≡ false →
             self.new.items ≡ slice_set self.old.items n sector.now) }
         ensures held { OnSome result (slice_index_or self.old.held n false ≡ false →
@@ -110,12 +111,12 @@ impl Held {
 }
 
 /// An array of 512 bytes is a sector.
-fn is_sector(sector: [u8; 512])
+fn is_sector(sector: Sector)
     ensures { IsSector sector }
 {}
 
 /// Appends a sector. Returns `None` if an allocation failed.
-fn push(kept: &mut Vec<[u8; 512]>, sector: &[u8; 512]) -> Option<()>
+fn push(kept: &mut Vec<Sector>, sector: &Sector) -> Option<()>
     ensures more { OnSome result (kept.new.items ≡ kept.old.items ++ (sector.now ∷ [])) }
     ensures none { IfNone result (kept.new.items ≡ kept.old.items) }
 {

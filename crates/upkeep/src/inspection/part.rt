@@ -6,7 +6,7 @@ ghost use Rattle.upkeep.specs.Part.{disk_of_part};
 
 use crate::inspection::held::Held;
 use crate::inspection::reading::hold_part;
-use disk::{DiskFault, DiskPlan, MemDisk, SectorDisk};
+use disk::{DiskFault, DiskPlan, MemDisk, SECTOR_BYTES, Sector, SectorDisk};
 use std::alloc::Global;
 use std::marker::Model;
 
@@ -127,13 +127,13 @@ fn no_dirty(alloc: Global, count: u32) -> Option<Vec<bool>>
 fn failing_disk(alloc: Global) -> Option<MemDisk>
     ensures stopped { IfSome result (λ disk. disk.counts.stopped ≡ true) }
 {
-    let bytes = vec![in alloc; 0; 512].ok()?;
+    let bytes = vec![in alloc; 0; SECTOR_BYTES].ok()?;
     let plan = DiskPlan {
         fail: None,
         stop: Some(0),
     };
     let mut disk = MemDisk::of(alloc, bytes, plan).ok()?;
-    match disk.write(0, &[0; 512]) {
+    match disk.write(0, &[0; SECTOR_BYTES]) {
         Ok(()) => None,
         Err(_) => Some(disk),
     }
@@ -151,7 +151,7 @@ impl SectorDisk for PartDisk {
     }
 
     #[tactic(auto, unfolding(disk::specs::Disk::left_since, disk::specs::Disk::moment))]
-    fn read(&mut self, n: u32, sector: &mut [u8; 512]) -> Result<(), DiskFault>
+    fn read(&mut self, n: u32, sector: &mut Sector) -> Result<(), DiskFault>
         ensures content { OnOk result (slice_index_or self.old.reads n [] ≡ sector.new) }
         ensures same_reads { self.new.reads ≡ self.old.reads }
         ensures same_dirty { self.new.dirty ≡ self.old.dirty }
@@ -177,7 +177,7 @@ impl SectorDisk for PartDisk {
     }
 
     #[tactic(auto, unfolding(disk::specs::Disk::left_since, disk::specs::Disk::moment))]
-    fn write(&mut self, n: u32, sector: &[u8; 512]) -> Result<(), DiskFault> {
+    fn write(&mut self, n: u32, sector: &Sector) -> Result<(), DiskFault> {
         let _ = sector;
         if n >= self.held.count() {
             return Err(DiskFault::NoSuchSector);

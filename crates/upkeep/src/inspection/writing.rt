@@ -8,6 +8,7 @@ ghost use Rattle.upkeep.specs.Text.{inspection_text, kinds_text, line, pace_text
 ghost use Rattle.upkeep.specs.Text.{records_text, rest_text, seals_text, sectors_text, time_text};
 
 use crate::inspection::inspecting::Inspection;
+use disk::SECTOR_BYTES;
 use std::io::{Result, Write};
 use texts::{write_number, write_text};
 
@@ -195,7 +196,7 @@ fn bytes_each(sectors: u64, events: u64) -> u64
     requires { 0 < events }
     ensures { result ≡ bytes_each sectors events }
 {
-    let bytes = u128::from(sectors) * 512;
+    let bytes = u128::from(sectors) * SECTOR_BYTES as u128;
     at_most((bytes + u128::from(events - 1)) / u128::from(events))
 }
 

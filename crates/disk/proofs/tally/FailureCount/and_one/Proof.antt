@@ -25,11 +25,11 @@ use denote.Triple.Spec.{Meets, triple_of}
 use denote.Triple.Table.{entered}
 use denote.Triple.Walked.{says, Stays, stay_dropped, walk_of, ends_at, walk_Meets, Goes-dropped}
 use Rattle.disk.proofs.Blank.{blank, blank_made}
-use Rattle.disk.specs.contracts.tally.Tally as Tally
-use Rattle.disk.specs.contracts.tally.Tally.and_one as F
-use Rattle.disk.specs.contracts.tally.Tally.and_one.Key.{name as #self}
-use Rattle.disk.proofs.tally.Tally.and_one.Statement as stated
-use Rattle.disk.proofs.tally.Tally.and_one.Code as code
+use Rattle.disk.specs.contracts.tally.FailureCount as FailureCount
+use Rattle.disk.specs.contracts.tally.FailureCount.and_one as F
+use Rattle.disk.specs.contracts.tally.FailureCount.and_one.Key.{name as #self}
+use Rattle.disk.proofs.tally.FailureCount.and_one.Statement as stated
+use Rattle.disk.proofs.tally.FailureCount.and_one.Code as code
 
 abbrev stayed : Stays F.ended.signature.params F.ended.kept
 stayed = (stay_dropped _ yes, tt)
@@ -49,7 +49,7 @@ module _ {M : Type 1} {𝓤 : Ura M} (𝓛 : Logic 𝓤) (at_mem : Memory → SP
         let a = z.0.3 in
         let vss = z.0.4 in
         let u : Val = vptr a.0.ref_ptr.0 a.0.ref_ptr.1 in
-        let tally : (Tally.the_row).Denot = record { count = a.0.now.count + 1 } in
+        let tally : (FailureCount.the_row).Denot = record { count = a.0.now.count + 1 } in
         qed 𝓛 ((raw (alive 𝓛 F.ended.signature z.0.0 z.0.1) ⊛ ‵ (owns (types_at F.ended.signature.params z.0.0) a vss)) ∷ raw ((held z.0.0 a).requires z.1) ∷ []) ∵
         keep ! (0 ∷ []) $ split ! $ move ! (1 ∷ []) $ fsplit ! $ fsplit ! $ feq_l ! (λ is₀. drop ! $ drop ! $
         regoal ! (λ (us : List Val). prop (WpFn 𝓤 H C Λ code.function (us ++ []) Post)) is₀ refl $
@@ -62,7 +62,7 @@ module _ {M : Type 1} {𝓤 : Ura M} (𝓛 : Logic 𝓤) (at_mem : Memory → SP
 
   meets : (𝓣 : Tables 𝓤 H) → Meets 𝓛 F.ended.signature (WpFn 𝓤 H 𝓣.C 𝓣.Λ code.function) (closing 𝓛 F.ended held)
   meets 𝓣 =
-      walk_Meets 𝓛 F.ended stayed (Goes-dropped 𝓛 1 (RefOf (0 ∷ []) tt (plain (λ _. Tally.the_row)) (λ _. tt)) yes (λ κs x f. refl), tt) held
+      walk_Meets 𝓛 F.ended stayed (Goes-dropped 𝓛 1 (RefOf (0 ∷ []) tt (plain (λ _. FailureCount.the_row)) (λ _. tt)) yes (λ κs x f. refl), tt) held
       (WpFn 𝓤 H 𝓣.C 𝓣.Λ code.function) (WpFn-mono 𝓤 H 𝓛.laws 𝓣 code.function) (walks 𝓣.C 𝓣.Λ)
 
 pub and_one_spec : {M : Type 1} → stated.statement M
