@@ -9,7 +9,7 @@ use Rattle.model.specs.Meaning.{Meaning}
 use Rattle.model.specs.Origins.{continued}
 use Rattle.model.specs.World.{IsUpto, World}
 use Rattle.model.specs.declared.origin.Origin.{Origin}
-use Rattle.commands.specs.Commands.{RepresentsUpto}
+use Rattle.runs.specs.Commands.{RepresentsUpto}
 use Rattle.recovery.specs.Replay.{IsReplayedTo}
 use Rattle.recovery.specs.Represents.{IsGenuine}
 use Rattle.texts.specs.ModelFile.{IsModelFile}

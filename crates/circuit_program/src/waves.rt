@@ -13,11 +13,11 @@ ghost use Rattle.views.specs.Views.{Begins, Prints};
 
 use circuit::Circuit;
 use cli::ModelFile;
-use commands::{Simulated, committed};
 use disk::{FileDisk, Returned};
 use model::{Continued, Origin, World};
 use program::{Fault, of_command, print_fault, simulated};
 use recovery::RecoveryFault;
+use runs::commands::{Simulated, committed};
 use segments::archiving::origin_on;
 use std::alloc::Global;
 use std::fs::File;

@@ -5,7 +5,7 @@ use cli::{Command, ModelFile, RunArgs, most_sectors};
 use commitlog::LogFault;
 use coordinator::SessionFault;
 use disk::{GrowthFault, SECTOR_BYTES, SystemError};
-use judging::ReportDifference;
+use frames::judging::ReportDifference;
 use node_programs::{Apart, Call, CallEnd};
 use recovery::RecoveryFault;
 use std::fs;

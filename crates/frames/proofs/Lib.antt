@@ -16,3 +16,7 @@ pub mod Reacting
 mod ServedExamples
 pub mod Turns
 pub mod Whole
+pub mod Accepted
+pub mod Alike
+mod Handlings
+mod Sending

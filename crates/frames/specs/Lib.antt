@@ -16,3 +16,6 @@ pub mod Socket  -- the state of a port to a node in another program, and what it
 pub mod Meeting  -- the hellos of a run and a node
 -- Internal: what the loop does with one frame.
 pub mod Reactions
+-- For callers: which reports of a node a judge accepts, and a port that judges
+pub mod Judging
+pub mod Judged

@@ -9,6 +9,7 @@ mod ahead;
 mod first_frame;
 mod greeted;
 mod greeting;
+pub mod judging;
 mod laws;
 mod meeting;
 mod node_loop;

@@ -2,9 +2,9 @@
 use Rattle.std.proofs.Common.{◌≡◌, ◌∙◌, ℕ, Bool, List, [], ◌∷◌, ◌++◌, Err, Ok, None, Option, Result, OnOk, ap, arith, false, inl, inr, refl, subst, sym, true}
 use Rattle.std.specs.Prelude.{◌≢◌, ◌≤◌, IfErr, IfOk, IsOkUnless, OnErr, length, option_map}
 use Rattle.segments.specs.Archiving.{IsNextDisk}
-use Rattle.commands.specs.Commands.{Numbers, PrintsRun, numbers_of, plain_numbers_of, ran_text, stopped_text}
-use Rattle.commands.specs.declared.fault.CommandFault.{CommandFault}
-use Rattle.commands.specs.declared.fault.CommandFault.TheVariants as on_disk
+use Rattle.runs.specs.Commands.{Numbers, PrintsRun, numbers_of, plain_numbers_of, ran_text, stopped_text}
+use Rattle.runs.specs.declared.commands.fault.CommandFault.{CommandFault}
+use Rattle.runs.specs.declared.commands.fault.CommandFault.TheVariants as on_disk
 use Rattle.coordinator.specs.declared.SessionFault.{SessionFault}
 use Rattle.disk.specs.Disk.{DiskState, OnlyLooks}
 use Rattle.disk.specs.FileDisks.{FileState, disk_of_file}

@@ -4,10 +4,10 @@ use Rattle.std.specs.Prelude.{◌≡◌, ◌⊎◌, ◌≢◌, ◌++◌, ◌&&�
 use Rattle.std.proofs.Common.{Bool, false, true, ap, arith, refl, subst, sym, inl, inr, ◌∙◌}
 use Rattle.std.proofs.lemmas.Bool.{false≢true}
 use Rattle.std.proofs.lemmas.List.{append-nil}
-use Rattle.commands.specs.Commands.{PrintsExtended, extended_text, stopped_text}
-use Rattle.commands.specs.Migrating.{PrintsMigrated, migrated_text}
-use Rattle.commands.specs.declared.fault.CommandFault.{CommandFault}
-use Rattle.commands.specs.declared.fault.CommandFault.TheVariants as on_disk
+use Rattle.runs.specs.Commands.{PrintsExtended, extended_text, stopped_text}
+use Rattle.runs.specs.Migrating.{PrintsMigrated, migrated_text}
+use Rattle.runs.specs.declared.commands.fault.CommandFault.{CommandFault}
+use Rattle.runs.specs.declared.commands.fault.CommandFault.TheVariants as on_disk
 use Rattle.commitlog.specs.Records.{Holds}
 use Rattle.commitlog.specs.declared.records.Entry.{Entry}
 use Rattle.disk.specs.Disk.{DiskState}

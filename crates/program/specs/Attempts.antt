@@ -4,9 +4,9 @@ use Rattle.std.specs.Prelude.{◌≡◌, ◌≢◌, ◌≤◌, ◌<◌, ◌==◌
 use Rattle.std.specs.Prelude.{Err, OnOk, Some, false, length, not, true, unwrap_or}
 use Rattle.segments.specs.Archiving.{IsNextDisk}
 use Rattle.cli.specs.declared.command.RunArgs.{RunArgs}
-use Rattle.commands.specs.Commands.{ran_text, stopped_text}
-use Rattle.commands.specs.declared.fault.CommandFault.{CommandFault}
-use Rattle.commands.specs.declared.fault.CommandFault.TheVariants as on_disk
+use Rattle.runs.specs.Commands.{ran_text, stopped_text}
+use Rattle.runs.specs.declared.commands.fault.CommandFault.{CommandFault}
+use Rattle.runs.specs.declared.commands.fault.CommandFault.TheVariants as on_disk
 use Rattle.disk.specs.Disk.{DiskState, OnlyLooks}
 use Rattle.disk.specs.FileDisks.{FileState, disk_of_file}
 use Rattle.disk_commands.specs.Disks.{IsUnused}

@@ -4,10 +4,10 @@ use Rattle.std.specs.Prelude.{◌≡◌, ◌≤◌, ◌*◌, ◌&&◌, ◌==◌,
 use Rattle.std.specs.Prelude.{Err, None, Ok, Option, Result, Some, codes, decimal, false, true}
 use Rattle.std.specs.Prelude.{if◌then◌else◌, ◌<◌, ◌⊎◌, ◌≢◌}
 use Rattle.std.specs.Prelude.{OnOk, is_some, length, min, replicate, slice_index_or, unwrap_or}
-use Rattle.commands.specs.Commands.{extended_text, formatted_text, ran_text, stopped_text}
-use Rattle.commands.specs.Migrating.{migrated_text}
-use Rattle.commands.specs.declared.fault.CommandFault.{CommandFault}
-use Rattle.commands.specs.declared.fault.CommandFault.TheVariants as on_disk
+use Rattle.runs.specs.Commands.{extended_text, formatted_text, ran_text, stopped_text}
+use Rattle.runs.specs.Migrating.{migrated_text}
+use Rattle.runs.specs.declared.commands.fault.CommandFault.{CommandFault}
+use Rattle.runs.specs.declared.commands.fault.CommandFault.TheVariants as on_disk
 use Rattle.commitlog.specs.Records.{Holds}
 use Rattle.commitlog.specs.declared.records.Entry.{Entry}
 use Rattle.plain.specs.declared.whole.PlainPlan.{PlainPlan}

@@ -22,15 +22,15 @@ use crate::plainly::attempt_plainly;
 use crate::running::{judges_all, plan_of};
 use crate::watching::Watching;
 use cli::{RunArgs, most_sectors};
-use commands::{CommandFault, Simulated};
 use coordinator::SessionFault;
 use disk::{FileDisk, Returned, Room, SectorDisk};
 use disk_commands::Fault;
+use frames::judging::{Differences, judged_ports};
 use frames::{Hello, SocketPort};
-use judging::{Differences, judged_ports};
 use model::{Continued, Model as Modelled, Origin};
 use node_programs::{Behind, Calls, NodeStream, NodesFault, clear, meet};
 use runs::Plan;
+use runs::commands::{CommandFault, Simulated};
 use segments::archiving::ArchivePlace;
 use std::alloc::Global;
 use std::fs::File;
@@ -358,7 +358,7 @@ where
         (disk_of_file result.disk) result.outcome (out.new ≡ out.old) (O.contents out.old)
         (O.contents out.new) }
 {
-    commands::run(alloc, of, disk, plan, watch, out)
+    runs::commands::run(alloc, of, disk, plan, watch, out)
 }
 
 /// One in this many reports of each process of a node program is judged, unless an option says
@@ -473,7 +473,7 @@ where
 {
     let Judge { every, differences } = judge;
     let judged = judged_ports(alloc, &of.model, every, Some(differences), ports)?;
-    Ok(commands::run_over(alloc, of, judged, disk, plan, watch, out))
+    Ok(runs::commands::run_over(alloc, of, judged, disk, plan, watch, out))
 }
 
 /// Returns the disk from which the run goes on after this attempt, or the attempt if it does not.

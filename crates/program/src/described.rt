@@ -4,8 +4,8 @@ ghost use Rattle.std.specs.Prelude.{◌≤◌, ◌^◌, ℕ, List, IfOk};
 ghost use Rattle.texts.specs.ModelFile.{IsModelFile};
 
 use cli::ModelFile;
-use commands::Simulated;
 use disk_commands::Fault;
+use runs::commands::Simulated;
 use std::rt::Files;
 use texts::Described;
 use views::{ModelText, read_model_file, read_model_text};

@@ -1,13 +1,13 @@
 // The end of a run: at the end of its simulation, or because a file asked for it.
 
 ghost use Rattle.std.specs.Prelude.{◌≡◌, ◌⊎◌, Err, Ok, OnErr, OnOk, is_some, true};
-ghost use Rattle.commands.specs.declared.fault.CommandFault.{CommandFault};
+ghost use Rattle.runs.specs.declared.commands.fault.CommandFault.{CommandFault};
 ghost use Rattle.eventkey.specs.Writing.{TakesBeginning};
 ghost use Rattle.program.specs.Command.{IsEnded, IsNotEnded};
 
 use crate::outcomes::of_command;
-use commands::{CommandFault, write_stopped};
 use disk_commands::Fault;
+use runs::commands::{CommandFault, write_stopped};
 use std::io::Write;
 use terminal::Progress;
 

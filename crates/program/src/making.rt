@@ -14,13 +14,13 @@ ghost use Rattle.views.specs.Views.{Begins, Prints};
 use crate::described::{WithText, simulated, simulated_with_text};
 use crate::outcomes::of_command;
 use cli::{DiskArgs, MigrateArgs, NewArgs, most_sectors};
-use commands::Simulated;
 use disk::FileDisk;
 use disk_commands::{
     Fault, Keeping, NewFile, SystemErrors, disk_with_log, is_blank, open_new, open_old,
     refuse_contents, text_to_keep,
 };
 use model::Continued;
+use runs::commands::Simulated;
 use std::alloc::Global;
 use std::fs::File;
 use std::io::{Write, sink};
@@ -59,7 +59,7 @@ where
     let mut disk = open_new(rt, disk, new, large, said)?;
     refuse_contents(&mut disk, args.over, said)?;
     keeping.write(rt, &mut disk, said)?;
-    let made = commands::new(rt.alloc(), &read.of, &mut disk, out);
+    let made = runs::commands::new(rt.alloc(), &read.of, &mut disk, out);
     said.note(disk.last_error());
     match made {
         Ok(()) => Ok(()),
@@ -133,7 +133,7 @@ where
         return Ok(());
     }
     let mut unseen = sink();
-    let made = commands::new(alloc, of, disk, &mut unseen);
+    let made = runs::commands::new(alloc, of, disk, &mut unseen);
     said.note(disk.last_error());
     match made {
         Ok(()) => Ok(()),
@@ -164,7 +164,7 @@ where
         model: Continued::new(&of.model, origin.as_ref()),
         end: of.end,
     };
-    let ended = commands::extend(rt.alloc(), &on, disk, out);
+    let ended = runs::commands::extend(rt.alloc(), &on, disk, out);
     said.note(ended.disk.last_error());
     match ended.outcome {
         Ok(()) => Ok(()),
@@ -204,7 +204,7 @@ where
     let most = most_sectors(large);
     let of: Simulated<M> = simulated(rt, model)?;
     let opened = open_disk(rt, old, most)?;
-    let mut log = match commands::old_log(rt.alloc(), &of, opened) {
+    let mut log = match runs::commands::old_log(rt.alloc(), &of, opened) {
         Ok(log) => log,
         Err(fault) => return Err(of_command(fault)),
     };
@@ -213,7 +213,7 @@ where
     }
     let mut made = open_new(rt, new, NewFile::of(sectors, reserve), large, said)?;
     refuse_contents(&mut made, false, said)?;
-    let ended = commands::migrate(rt.alloc(), &of, &mut log, made, out);
+    let ended = runs::commands::migrate(rt.alloc(), &of, &mut log, made, out);
     said.note(ended.disk.last_error());
     match ended.outcome {
         Ok(()) => Ok(()),

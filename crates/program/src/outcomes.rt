@@ -3,8 +3,8 @@
 ghost use Rattle.std.specs.Prelude.{◌≡◌};
 ghost use Rattle.program.specs.Command.{of_command};
 
-use commands::CommandFault;
 use disk_commands::Fault;
+use runs::commands::CommandFault;
 
 /// Returns the program's fault for one of a command on a disk.
 pub fn of_command(fault: CommandFault) -> Fault

@@ -10,10 +10,10 @@ ghost use Rattle.views.specs.Views.{Begins, Prints};
 use crate::making::new_on;
 use crate::watching::Watching;
 use cli::NewArgs;
-use commands::{CommandFault, Simulated};
 use disk::{FileDisk, Returned};
 use disk_commands::{Fault, SystemErrors, new_behind};
 use model::Model as Modelled;
+use runs::commands::{CommandFault, Simulated};
 use segments::archiving::{
     ArchivePlace, Archived, NotArchived, archive, remove_parts, remove_second_names,
 };

@@ -8,10 +8,10 @@ ghost use Rattle.program.specs.Command.{plain_plan_of};
 use crate::parts::Tried;
 use crate::watching::Watching;
 use cli::RunArgs;
-use commands::Simulated;
 use disk::FileDisk;
 use model::Model as Modelled;
 use plain::PlainPlan;
+use runs::commands::Simulated;
 use std::alloc::Global;
 use std::fs::File;
 use std::io::Write;
@@ -55,5 +55,5 @@ where
 {
     let plan = plain_plan_of(args);
     watch.commit_every = plan.commit_every;
-    commands::run_plain(alloc, of, disk, plan, watch, out)
+    runs::commands::run_plain(alloc, of, disk, plan, watch, out)
 }

@@ -24,7 +24,7 @@ use cli::{
 use disk_commands::{
     Asked, Fault, Noted, SystemErrors, Verifying, advise, cut_on, grow_on, recover_on, reopen_on,
 };
-use judging::Differences;
+use frames::judging::Differences;
 use node_programs::Calls;
 use std::convert::AsStr;
 use std::env;

@@ -8,3 +8,6 @@ pub mod Ports
 mod Refused
 mod Shapes
 mod Unfinished
+mod OldDisks
+mod Printed
+mod Prints

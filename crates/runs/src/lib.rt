@@ -3,6 +3,7 @@
 #![tactic(auto)]
 
 mod budgets;
+pub mod commands;
 mod fault;
 mod local;
 mod over;

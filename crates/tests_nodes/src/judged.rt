@@ -2,7 +2,7 @@
 // port over a node that reports what it did not do.
 
 ghost use Rattle.std.specs.Prelude.{◌≤◌, false};
-ghost use Rattle.judging.specs.Judged.{judged_state};
+ghost use Rattle.frames.specs.Judged.{judged_state};
 
 use crate::loads::{load, round};
 use crate::opened::{END, formatted, ring};
@@ -10,7 +10,7 @@ use crate::steps::{MADE, MIXED, judged_steps_of, steps_of};
 use commitlog::LogFault;
 use coordinator::{Answer, Session, SessionFault, Step};
 use disk::{MemDisk, NotOpened};
-use judging::{Differences, Judged, ReportDifference, judged_ports};
+use frames::judging::{Differences, Judged, ReportDifference, judged_ports};
 use loopback::{LoopPort, loop_ports};
 use models::TokenRing;
 use node::{Load, NodeFault, Parcel, Reply};

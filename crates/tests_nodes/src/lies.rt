@@ -2,7 +2,7 @@
 // sequential simulation does, or it commits nothing more.
 
 ghost use Rattle.std.specs.Prelude.{◌≡◌, ◌≤◌, IfOk, false, length, map, replicate};
-ghost use Rattle.judging.specs.Judged.{judged_state};
+ghost use Rattle.frames.specs.Judged.{judged_state};
 ghost use Rattle.loopback.specs.Loop.{state_of};
 ghost use Rattle.loopback.specs.declared.port.Held.TheVariants.{Fresh};
 

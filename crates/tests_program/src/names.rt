@@ -1,7 +1,6 @@
 // The printed name of each fault. A fault that carries another is printed with that one's name
 // after a space; a mistake in a model file is printed in plain words, with the key.
 
-use commands::CommandFault;
 use commitlog::LogFault;
 use coordinator::SessionFault;
 use disk::{DiskFault, FileFault, GrowthFault};
@@ -12,6 +11,7 @@ use node::NodeFault;
 use process::ProcessFault;
 use program::{Fault, SegmentFault};
 use recovery::RecoveryFault;
+use runs::commands::CommandFault;
 use runs::{RunFault, SimulationFault};
 use segments::archiving::ArchiveFault;
 use std::alloc::Global;

@@ -8,13 +8,13 @@ ghost use Rattle.std.specs.Prelude.{◌≡◌, ◌≤◌, ◌<◌, ◌^◌, IfOk
 
 mod world;
 
-use commands::{CommandFault, log, show};
 use commitlog::{LogFault, format};
 use coordinator::{Extended, FrontView, Session, SessionFault, Step, extend};
 use disk::{DiskPlan, MemDisk, NotOpened, Returned, Torn};
-use model::{World, WorldFault, WorldParts};
+use model::{Words, World, WorldFault, WorldParts};
 use models::AnyModel;
 use recovery::{RecoveryFault, header};
+use runs::commands::{CommandFault, Simulated, committed};
 use runs::{Batch, Plan, RunFault, Schedule, Watch, local_ports, run_session};
 use std::alloc::{AllocError, AllocFailed, Global};
 use std::{env, fs, io};
@@ -435,18 +435,27 @@ fn is_opened(
     }
 }
 
-/// Checks that `log` and then `show` print of a disk, opened again, what `seq` prints.
+/// Checks that the log and the world on a disk, opened again, are in text what `seq` prints.
 fn look_at_texts(alloc: Global, of: &ModelWithPlainRun, disk: &MemDisk) -> Result<(), Failure>
     requires begun { 1 ≤ of.now.end }
     requires short { of.now.end ≤ 2 ^ 40 }
 {
-    let what = commands::Simulated {
+    let what = Simulated {
         model: of.model,
         end: of.end,
     };
     let mut text = Vec::new(alloc);
-    log(alloc, &what, reopened(alloc, disk)?, &mut text)?;
-    show(alloc, &what, reopened(alloc, disk)?, &mut text)?;
+    let front = committed(alloc, &what, reopened(alloc, disk)?)?;
+    let mut states = Vec::with_capacity(alloc, front.states.as_slice().len())?;
+    'states: for state in front.states.as_slice() {
+        states.push(Words::from_slice(alloc, state.as_slice())?)?;
+    }
+    let (numbers, pending) = (front.numbers.as_slice(), front.pending.as_slice());
+    if states.len() != numbers.len() {
+        return Err(Failure::Lost(Loss::World));
+    }
+    write_log(front.log.as_slice(), &mut text).map_err(Failure::Output)?;
+    write_world(front.g, states.as_slice(), numbers, pending, &mut text).map_err(Failure::Output)?;
     if text.as_slice() != of.text.as_slice() {
         return Err(Failure::Lost(Loss::Text));
     }

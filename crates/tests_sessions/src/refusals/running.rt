@@ -1,21 +1,23 @@
-// Commands with one allocation refused: a run, and what is printed of the disk that it leaves.
+// Calls with one allocation refused: a run, and what is printed of the disk that it leaves.
 
 ghost use Rattle.std.specs.Prelude.{◌≡◌};
 
 use crate::disks::{END, TEARINGS, formatted, plan, ring};
 use crate::refusals::crashed;
 use crate::refusals::openings::{is_of_memory, look_at_crashes};
-use commands::{CommandFault, Simulated, log, run, show};
 use commitlog::LogFault;
 use disk::{MemDisk, Returned};
+use model::Words;
 use models::TokenRing;
 use recovery::RecoveryFault;
+use runs::commands::{CommandFault, Simulated, committed, run};
 use runs::{Plan, Watch};
 use std::alloc::Global;
 use std::process::Abort;
 use std::test::Fail;
+use texts::{write_log, write_world};
 
-/// What `log` and then `show` print after a whole run.
+/// The log and then the world after a whole run.
 const LOG: &str =
     "1 0 0 0 0 0 0 0\n3 0 1 1 0 1 0 0\n5 1 0 2 0 2 0 0\n7 2 0 0 0 3 0 0\n9 0 2 1 0 4 0 0\n";
 
@@ -109,7 +111,7 @@ pub fn ran(rt: &impl Abort, alloc: Global, sectors: u32, every: u32) -> Result<M
     Ok(disk)
 }
 
-/// A command that prints a disk.
+/// What is printed of a disk.
 #[derive(Clone, Copy)]
 enum Printed {
     Log,
@@ -122,10 +124,26 @@ fn print(
     disk: MemDisk,
     out: &mut Vec<u8>,
 ) -> Result<(), CommandFault> {
-    match printed {
-        Printed::Log => log(alloc, &one_token(), disk, out),
-        Printed::World => show(alloc, &one_token(), disk, out),
+    let front = committed(alloc, &one_token(), disk)?;
+    let (states, numbers) = (front.states.as_slice(), front.numbers.as_slice());
+    let mut words = Vec::with_capacity(alloc, states.len())?;
+    'states: for state in states {
+        words.push(Words::from_slice(alloc, state.as_slice())?)?;
     }
+    match printed {
+        Printed::Log => write_log(front.log.as_slice(), out)?,
+        Printed::World if words.len() == numbers.len() => {
+            write_world(
+                front.g,
+                words.as_slice(),
+                numbers,
+                front.pending.as_slice(),
+                out,
+            )?;
+        }
+        Printed::World => {}
+    }
+    Ok(())
 }
 
 /// Prints a disk. After an allocation failure nothing must be printed, and a second call prints it

@@ -1,8 +1,8 @@
 use Rattle.std.proofs.Common.{Bool, inl, refl, sym, ◌∙◌, ◌≡◌}
 use Rattle.std.proofs.lemmas.List.{length-map}
 use Rattle.std.specs.Prelude.{false, not}
-use Rattle.judging.proofs.Alike.{judged_alike}
-use Rattle.judging.specs.Judged.{judged_state}
+use Rattle.frames.proofs.Alike.{judged_alike}
+use Rattle.frames.specs.Judged.{judged_state}
 use Rattle.runs.proofs.Ports.{all_fresh, so_many}
 use Rattle.frames.specs.Socket.{state_of}
 use Rattle.frames.specs.declared.port.Held.TheVariants.{Fresh}

@@ -1,7 +1,7 @@
 use Rattle.disk.specs.FileDisks.{disk_of_file}
 use Rattle.recovery.proofs.Crashes.{followed_by, looked-keeps}
 use Rattle.std.proofs.Common.{inr, rules}
-use Rattle.commands.specs.Commands.{IsNewLog}
+use Rattle.runs.specs.Commands.{IsNewLog}
 use Rattle.disk_commands.specs.Disks.{IsUnused}
 use Rattle.program.proofs.making.make_log.Goals as goal
 

@@ -1,5 +1,5 @@
 use Rattle.std.proofs.Common.{refl}
-use Rattle.judging.proofs.Alike.{judged_alike}
+use Rattle.frames.proofs.Alike.{judged_alike}
 use Rattle.runs.proofs.Ports.{all_fresh}
 use Rattle.tests_nodes.proofs.judged.judged.Goals as goal
 

@@ -1,6 +1,6 @@
 use Rattle.std.proofs.Common.{◌≡◌, false, map}
 use Rattle.std.specs.Prelude.{replicate}
-use Rattle.judging.specs.Judged.{judged_state}
+use Rattle.frames.specs.Judged.{judged_state}
 use Rattle.loopback.specs.Loop.{state_of}
 use Rattle.loopback.specs.declared.port.Held.TheVariants.{Fresh}
 use Rattle.tests_nodes.proofs.lies.lying_ports.Given as goal

@@ -1,4 +1,0 @@
-pub mod Accepted
-pub mod Alike
-mod Handlings
-mod Sending

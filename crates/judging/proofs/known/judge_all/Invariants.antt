@@ -1,9 +1,0 @@
-use Rattle.std.proofs.Common.{length}
-use Rattle.judging.proofs.Accepted.{IsJudgedSoFar}
-use Rattle.judging.proofs.known.judge_all.Given as goal
-
-abbrev pub invariant-reports : goal.invariant-reports
-invariant-reports g l = IsJudgedSoFar (g.M.Model.meaning l.model) l.every l.nodes l.initial.known.items l.reports l.left l.known.items
-
-abbrev pub decreases-reports : goal.decreases-reports
-decreases-reports g l = length l.left

@@ -1,0 +1,22 @@
+use Rattle.std.proofs.Common.{codes, refl}
+use Rattle.runs.proofs.Printed.{writes_last}
+use Rattle.eventkey.proofs.Writers.{writes_as, writes_failed, writes_then, writes_whole, wrote}
+use Rattle.runs.proofs.commands.printing.write_formatted.Goals as goal
+
+pub returns-in_err-write_number-clause-written : goal.returns-in_err-write_number-clause-written
+returns-in_err-write_number-clause-written g c =
+    writes_as (writes_failed c.from_residual.result (codes " sectors\n") c.write_number.ensures c.in_err-write_number.was c.from_residual.ensures.0) (rw (c.from.ensures) refl)
+
+pub returns-in_err-write_text-clause-written : goal.returns-in_err-write_text-clause-written
+returns-in_err-write_text-clause-written g c =
+    writes_as (writes_last c.from_residual-in_err-write_text.result (writes_then c.write_number.ensures c.in_ok-write_number.was c.write_text.ensures) c.in_err-write_text.was c.from_residual-in_err-write_text.ensures.0) (rw (c.from.ensures) refl)
+
+pub returns-in_err-flush-clause-written : goal.returns-in_err-flush-clause-written
+returns-in_err-flush-clause-written g c =
+    writes_as (writes_whole (g.O.Write.contents c.args.out.now) (g.O.Write.contents c.write_text.new.out) (g.O.Write.contents c.flush.new.self) _ c.from_residual-in_err-flush.result
+    (wrote (writes_then c.write_number.ensures c.in_ok-write_number.was c.write_text.ensures) c.in_ok-write_text.was) c.flush.ensures.bytes) (rw (c.from.ensures) refl)
+
+pub returns-clause-written : goal.returns-clause-written
+returns-clause-written g c =
+    writes_as (writes_whole (g.O.Write.contents c.args.out.now) (g.O.Write.contents c.write_text.new.out) (g.O.Write.contents c.flush.new.self) _ _
+    (wrote (writes_then c.write_number.ensures c.in_ok-write_number.was c.write_text.ensures) c.in_ok-write_text.was) c.flush.ensures.bytes) (rw (c.from.ensures) refl)
