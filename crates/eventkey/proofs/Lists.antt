@@ -1,5 +1,5 @@
 -- Lists: properties of every element, ascending lists, signed messages.
-use Rattle.std.proofs.Common.{ℕ, zero, suc, ◌+◌, ◌<◌, List, [], ◌∷◌, ◌++◌, map, flat_map, arith, length, set, get_or, sym, subst, inl, inr, ◌≡◌, true, false, ◌≤◌, refl, ap, ◌∙◌, Option, Some, None, filter, Bool, ◌==◌, eqb-true, replicate, drop}
+use Rattle.std.proofs.Common.{ℕ, zero, suc, ◌+◌, ◌<◌, List, [], ◌∷◌, ◌++◌, map, flat_map, arith, length, set, get_or, sym, subst, inl, inr, ◌≡◌, ◌≢◌, true, false, ◌≤◌, refl, ap, ◌∙◌, Option, Some, None, filter, Bool, ◌==◌, eqb-true, replicate, drop}
 use Rattle.std.proofs.lemmas.Bool.{cases_Bool, cond_both, both_ways}
 use Rattle.std.proofs.lemmas.List.{drop_more}
 use Rattle.std.proofs.lemmas.Option.{none-some, same_Some}
@@ -220,3 +220,13 @@ pub Every-get_or-default : {X : Type 0} (P : X → Type 0) (xs : List X) (i : �
 Every-get_or-default P [] i d h k = k
 Every-get_or-default P (x ∷ xs) zero d h k = h.0
 Every-get_or-default P (x ∷ xs) (suc i) d h k = Every-get_or-default P xs i d h.1 k
+
+pub map-replicate : {A B : Type 0} (f : A → B) (count : ℕ) (x : A) → map f (replicate count x) ≡ replicate count (f x)
+map-replicate f zero x = refl
+map-replicate f (suc count) x = ap (λ xs. f x ∷ xs) (map-replicate f count x)
+
+pub not_same : (a b : ℕ) → a ≢ b → (a == b) ≡ false
+not_same a b ne = elim (cases_Bool (a == b)) [
+  | inl e ↦ absurd (ne (eqb-true a b e))
+  | inr e ↦ e
+]

@@ -1,14 +1,11 @@
 -- The states of ports that judge.
-use Rattle.std.proofs.Common.{◌≡◌, ◌∙◌, ℕ, List, [], ◌++◌, ◌∷◌, ap, arith, length, map, refl, replicate, sym, zero, suc}
+use Rattle.std.proofs.Common.{◌≡◌, ◌∙◌, ℕ, List, [], ◌++◌, ◌∷◌, ap, arith, length, map, replicate, sym}
 use Rattle.std.proofs.lemmas.List.{append-nil, map-append}
 use Rattle.std.specs.Prelude.{false}
 use Rattle.std.proofs.lemmas.Simd.{map-map}
+use Rattle.eventkey.proofs.Lists.{map-replicate}
 use Rattle.frames.specs.Judged.{Judged, judged_state, new_judge, state_by}
 use Rattle.wire.specs.Port.{PortState}
-
-map-replicate : (f : PortState → PortState) (n : ℕ) (s : PortState) → map f (replicate n s) ≡ replicate n (f s)
-map-replicate f zero s = refl
-map-replicate f (suc n) s = ap (λ xs. f s ∷ xs) (map-replicate f n s)
 
 -- over ports of one state, those that judge have one state too
 pub judged_alike : {M P : Type 0} (model : M) (every : ℕ) (state : P → PortState) (js : List (Judged M P)) (ps : List P) (n : ℕ) (s : PortState) →

@@ -1,8 +1,9 @@
 -- The times of summaries in lists of their own.
-use Rattle.std.proofs.Common.{◌≡◌, ℕ, zero, suc, ◌<◌, ◌≤◌, ◌^◌, min, true, false, List, [], ◌∷◌, length, get_or, set, map, replicate, refl, sym, subst, ◌∙◌, ap, arith, Option, Some, None, IfSome}
+use Rattle.std.proofs.Common.{◌≡◌, ℕ, zero, suc, ◌<◌, ◌≤◌, ◌^◌, min, true, false, List, [], ◌∷◌, length, get_or, set, replicate, refl, sym, subst, ◌∙◌, ap, arith, Option, Some, None, IfSome}
 use Rattle.std.proofs.lemmas.Bool.{cond-true, le-ltb, lt-ltb}
 use Rattle.std.proofs.lemmas.List.{get_or-map, length-map, map-set, set-get_or}
 use Rattle.std.specs.Prelude.{nat_lt}
+use Rattle.eventkey.proofs.Lists.{map-replicate}
 use Rattle.node.specs.Blocks.{AreBlocks, IsQuietFrom, lows_of, oldest_of, with_oldest}
 use Rattle.node.specs.Node.{earliest}
 use Rattle.node.specs.Seats.{is_due}
@@ -68,10 +69,6 @@ low_at : (xs : List Summary) (lows oldest : List ℕ) (k : ℕ) → AreBlocks xs
 low_at xs lows oldest k h l = ap (λ (ts : List ℕ). get_or ts k 0) h.lows_are ∙ get_or-map (λ (s : Summary). ticks_of s.low) xs k absent 0 l
 
 -- 3. Changes
-
-map-replicate : {A B : Type 0} (f : A → B) (count : ℕ) (x : A) → map f (replicate count x) ≡ replicate count (f x)
-map-replicate f zero x = refl
-map-replicate f (suc count) x = ap (λ xs. f x ∷ xs) (map-replicate f count x)
 
 pub none_at : (count k : ℕ) → get_or (replicate count absent) k absent ≡ absent
 none_at zero k = refl

@@ -1,11 +1,12 @@
 -- How many events each cell of a heat map has.
 use Rattle.std.specs.List.{filter, flat_map}
-use Rattle.std.proofs.Common.{◌≡◌, ◌≢◌, ◌==◌, ◌&&◌, ◌+◌, ◌-◌, ◌*◌, ◌<◌, ◌++◌, ◌∷◌, [], ℕ, Bool, List, ap, arith, eq-eqb, eqb-true, false, get_or, if◌then◌else◌, inl, inr, length, max, refl, replicate, set, suc, sym, true, zero, ◌∙◌}
+use Rattle.std.proofs.Common.{◌≡◌, ◌≢◌, ◌==◌, ◌&&◌, ◌+◌, ◌-◌, ◌*◌, ◌<◌, ◌++◌, ◌∷◌, [], ℕ, Bool, List, ap, arith, eq-eqb, false, get_or, if◌then◌else◌, inl, inr, length, max, refl, replicate, set, suc, sym, true, zero, ◌∙◌}
 use Rattle.std.specs.Prelude.{nat_le, nat_lt}
-use Rattle.std.proofs.lemmas.Bool.{and_from, cases_Bool, cases_eq, le-leb, lt-ltb}
+use Rattle.std.proofs.lemmas.Bool.{and_from, cases_eq, le-leb, lt-ltb}
 use Rattle.std.proofs.lemmas.List.{get_or-replicate, get_or-set_other, get_or-set_same, length-append, length-replicate, length-set}
 use Rattle.std.proofs.lemmas.List.Concat.{flat_map-append}
 use Rattle.std.proofs.lemmas.List.Elements.{filter-append}
+use Rattle.eventkey.proofs.Lists.{not_same}
 use Rattle.eventkey.specs.Message.{Message}
 use Rattle.model.specs.World.{below}
 use Rattle.pictures.specs.Drawing.{frame_of, grid_text}
@@ -43,12 +44,6 @@ cells_outside f events x cells out are = record {
   long = are.long;
   each = λ row slice l few. are.each row slice l few ∙ sym (cell-passed f row slice events x (ap (λ b. b && (slice_at f x.time == slice)) (out row l)));
 }
-
-not_same : (a b : ℕ) → a ≢ b → (a == b) ≡ false
-not_same a b ne = elim (cases_Bool (a == b)) [
-  | inl e ↦ absurd (ne (eqb-true a b e))
-  | inr e ↦ e
-]
 
 and-false : (a b : Bool) → b ≡ false → (a && b) ≡ false
 and-false true b e = e

@@ -10,7 +10,7 @@ use Rattle.std.proofs.lemmas.Bool.{and_parts, cases_Bool, cases_eq, leb-true, lt
 use Rattle.std.proofs.lemmas.List.{get_or-set_other, get_or-set_same, get_or_default, length-append, length-replicate, length-set, map-append}
 use Rattle.std.proofs.lemmas.List.Elements.{filter-append}
 use Rattle.std.proofs.lemmas.List.Sorted.{IsPermutation-append_left, IsPermutation-append_right, IsPermutation-to_front, IsPermutation-trans}
-use Rattle.eventkey.proofs.Lists.{Every-add_all, Every-all, Every-weaker}
+use Rattle.eventkey.proofs.Lists.{Every-add_all, Every-all, Every-weaker, not_same}
 use Rattle.eventkey.specs.Message.{Message}
 use Rattle.model.proofs.Runs.{run_more, step_below, went}
 use Rattle.model.proofs.Steps.{Reaches-sooner, Reaches_logged, Reaches_time, step_made}
@@ -240,19 +240,13 @@ counted_event r x n pending old new lp count is to inside times count_is handled
             let more : handled_by next x.to ≡ handled_by r x.to + 1 = handled_more r x n pending x.to ∙ ap (λ j. handled_by r x.to + j) one in
             ap (λ j. get_or (set old.handled.items lp count) j 0) e ∙ here ∙ count_is ∙ ap (λ j. j + 1) was ∙ ap (λ j. handled_by r j + 1) to ∙ sym more ∙ ap (handled_by next) (sym to ∙ sym e)
         | inr ne ↦
-            let other : (x.to == k) ≡ false = not_same k (λ e. ne (e ∙ sym to)) in
+            let other : (x.to == k) ≡ false = not_same x.to k (λ e. ne (sym e ∙ sym to)) in
             let none : length (filter (λ (y : Message). y.to == k) (x ∷ [])) ≡ 0 = ap (λ b. length (if b then x ∷ [] else [])) other in
             get_or-set_other old.handled.items lp k count 0 ne ∙ is.handled k l ∙ omega (arith, none, handled_more r x n pending k)
       ];
       delays = delays;
       unsent = unsent;
     }
-  where
-    not_same : (k : ℕ) → k ≢ x.to → (x.to == k) ≡ false
-    not_same k ne = elim (cases_Bool (x.to == k)) [
-      | inl e ↦ absurd (ne (sym (eqb-true x.to k e)))
-      | inr e ↦ e
-    ]
 
 -- what the counts had of a run they have of it after one more event
 pub delays_go_on : (r : Run) (x : Message) (n : ℕ) (pending events : List Message) (d : Delays) (unsent : List Message) → length r.sends ≡ length r.events → HasDelays r events d unsent → HasDelays (with_event r x n pending) events d unsent

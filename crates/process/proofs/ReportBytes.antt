@@ -9,7 +9,7 @@ use Rattle.std.proofs.lemmas.List.{drop_at, take_at}
 use Rattle.std.proofs.lemmas.Option.{none-some, same_Some}
 use Rattle.byteorder.specs.Endian.{big_bytes}
 use Rattle.byteorder.specs.Numbers.{length-bytes_high_first}
-use Rattle.eventkey.proofs.Encodings.{message_format}
+use Rattle.eventkey.proofs.Encodings.{length-messages, message_format}
 use Rattle.eventkey.proofs.Readings.{encodings_are_as_long}
 use Rattle.eventkey.proofs.Fields.{format1, format8, items_again, items_take}
 use Rattle.eventkey.proofs.Lists.{Every-append, drop_here}
@@ -194,10 +194,6 @@ record HasLength (bytes : List ℕ) (d : Done) (others : List ℕ) : Type 0 wher
   short : length d.after ≤ 16
   whole : length bytes ≡ (56 + (1 + 56 * length d.sent) + (1 + 8 * length d.after) + 8) + length others
   rest : drop (56 + (1 + 56 * length d.sent) + (1 + 8 * length d.after) + 8) bytes ≡ others
-
-length-messages : (xs : List Message) → length (flat_map message_bytes xs) ≡ 56 * length xs
-length-messages [] = refl
-length-messages (x ∷ xs) = omega (arith, length-append (message_bytes x) (flat_map message_bytes xs), encodings_are_as_long.0 x, length-messages xs)
 
 has_length : (bytes : List ℕ) (d : Done) (others : List ℕ) → bytes ≡ done_bytes d ++ others → IsDone d → HasLength bytes d others
 unfolding done_bytes words_bytes

@@ -1,8 +1,7 @@
 -- What the commands print, in a common form.
 use Rattle.std.specs.Io.KnownBytes.{Appends}
-use Rattle.std.specs.Prelude.{◌≡◌, ◌⊎◌, ◌≢◌, ◌++◌, ◌&&◌, [], ℕ, List, Option, Result, Ok, Err, IsErr, OnOk, OnErr, Some, is_some, length}
+use Rattle.std.specs.Prelude.{◌≡◌, ◌⊎◌, ◌≢◌, ◌++◌, ◌&&◌, [], ℕ, List, Option, Result, Ok, Err, OnOk, OnErr, Some, is_some, length}
 use Rattle.std.proofs.Common.{Bool, false, true, ap, arith, refl, subst, sym, inl, inr, ◌∙◌}
-use Rattle.std.proofs.lemmas.Bool.{false≢true}
 use Rattle.std.proofs.lemmas.List.{append-nil}
 use Rattle.runs.specs.Commands.{PrintsExtended, extended_text, stopped_text}
 use Rattle.runs.specs.Migrating.{PrintsMigrated, migrated_text}
@@ -11,8 +10,7 @@ use Rattle.runs.specs.declared.commands.fault.CommandFault.TheVariants as on_dis
 use Rattle.commitlog.specs.Records.{Holds}
 use Rattle.commitlog.specs.declared.records.Entry.{Entry}
 use Rattle.disk.specs.Disk.{DiskState}
-use Rattle.eventkey.specs.Writing.{TakesBeginning, Writes}
-use Rattle.eventkey.proofs.Writers.{began}
+use Rattle.eventkey.specs.Writing.{TakesBeginning}
 use Rattle.upkeep.specs.Old.{IsOldLog}
 use Rattle.model.specs.Meaning.{Meaning}
 use Rattle.model.specs.declared.origin.Origin.{Origin}
@@ -22,14 +20,6 @@ use Rattle.views.specs.Views.{Begins, Describes, Prints}
 use Rattle.program.specs.Attempts.{judges_all}
 use Rattle.program.specs.Command.{IsEnded, IsExtendedText, IsMigratedText, IsNotEnded}
 use Rattle.disk_commands.specs.declared.fault.Fault.{Fault}
-
-pub at_ok : {T E X : Type 0} {r : Result T E} {x : T} → r ≡ Ok x → OnOk r X → X
-at_ok {r = Ok x} e h = h
-at_ok {r = Err x} e h = cc
-
-pub at_err : {T E X : Type 0} {r : Result T E} {f : E} → r ≡ Err f → OnErr r X → X
-at_err {r = Ok x} e h = cc
-at_err {r = Err x} e h = h
 
 pub when_ok : {T E X : Type 0} (r : Result T E) → X → OnOk r X
 when_ok (Ok x) h = h
@@ -55,11 +45,6 @@ module _ {T A B : Type 0} where
   on_command (Err on_disk.Rounds) h k = inl (k on_disk.Rounds refl (λ e. cc))
   on_command (Err (on_disk.Stopped t n)) h k = inl (k (on_disk.Stopped t n) refl (λ e. cc))
   on_command (Err (on_disk.Migrate f)) h k = inl (k (on_disk.Migrate f) refl (λ e. cc))
-
--- after a failed write nothing more is written
-pub writes_last : {T E U F : Type 0} {s : Result T E} {old new : Option (List ℕ)} {text : List ℕ} {x : E} (r : Result U F) → Writes old new s text → s ≡ Err x → IsErr r → Writes old new r text
-writes_last (Ok y) h e failed = absurd (false≢true failed)
-writes_last (Err y) h e failed = record { all = tt; part = began h e }
 
 -- how a run ended, after what it has printed, from `old` to `mid`
 module _ {T U : Type 0} (Ran Stopped : List ℕ → Type 0) (old mid new : Option (List ℕ)) where

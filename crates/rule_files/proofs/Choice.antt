@@ -127,9 +127,9 @@ module _ (tables : List (List ℕ)) (x : Expression) (block rest : Vec Statement
 
 -- 3. The kinds of a file are in a row
 
-abbrev pub InRow : ℕ → List (Kind × Members) → Type 0
-InRow first [] = Unit {0}
-InRow first (k ∷ ks) = (k.0.first ≡ first) × (first + k.0.count ≤ 65536) × InRow (first + k.0.count) ks
+abbrev pub AreAdjacent : ℕ → List (Kind × Members) → Type 0
+AreAdjacent first [] = Unit {0}
+AreAdjacent first (k ∷ ks) = (k.0.first ≡ first) × (first + k.0.count ≤ 65536) × AreAdjacent (first + k.0.count) ks
 
 few_is : (first n count : ℕ) (b : Bool) → nat_le (first + n) 65536 ≡ b → (if b then Some n else None) ≡ Some count → first + count ≤ 65536
 few_is first n count true is h = let e : n ≡ count = cc in subst (λ c. first + c ≤ 65536) e (grind (arith, nat_tests, is))
@@ -157,36 +157,36 @@ kind_first first t k h =
     (f, counted first (count_of t) k.count c)
 
 some_row : (first : ℕ) (t : Members) (o : Option Kind) (rest : Kind → Option (List (Kind × Members))) (ks : List (Kind × Members)) → kind_in first t ≡ o
-    → ((k : Kind) (js : List (Kind × Members)) → rest k ≡ Some js → InRow (first + k.count) js)
-    → option_and_then (λ k. option_map (λ js. (k, t) ∷ js) (rest k)) o ≡ Some ks → InRow first ks
+    → ((k : Kind) (js : List (Kind × Members)) → rest k ≡ Some js → AreAdjacent (first + k.count) js)
+    → option_and_then (λ k. option_map (λ js. (k, t) ∷ js) (rest k)) o ≡ Some ks → AreAdjacent first ks
 some_row first t None rest ks is others h = cc
 some_row first t (Some k) rest ks is others h = some_behind first t k (rest k) ks is (others k) h
   where
     some_behind : (first : ℕ) (t : Members) (k : Kind) (o : Option (List (Kind × Members))) (ks : List (Kind × Members)) → kind_in first t ≡ Some k
-        → ((js : List (Kind × Members)) → o ≡ Some js → InRow (first + k.count) js)
-        → option_map (λ js. (k, t) ∷ js) o ≡ Some ks → InRow first ks
+        → ((js : List (Kind × Members)) → o ≡ Some js → AreAdjacent (first + k.count) js)
+        → option_map (λ js. (k, t) ∷ js) o ≡ Some ks → AreAdjacent first ks
     some_behind first t k None ks is others h = cc
     some_behind first t k (Some js) ks is others h =
         let e : (k, t) ∷ js ≡ ks = cc in
         let (f, c) = kind_first first t k is in
-        subst (InRow first) e (f, c, others js refl)
+        subst (AreAdjacent first) e (f, c, others js refl)
 
-pub in_row : (first : ℕ) (ts : List Members) (ks : List (Kind × Members)) → kinds_from first ts ≡ Some ks → InRow first ks
-in_row first [] ks h = let e : [] ≡ ks = cc in subst (InRow first) e tt
-in_row first (t ∷ ts) ks h =
-    some_row first t (kind_in first t) (λ k. kinds_from (first + k.count) ts) ks refl (λ k js is. in_row (first + k.count) ts js is) h
+pub adjacent : (first : ℕ) (ts : List Members) (ks : List (Kind × Members)) → kinds_from first ts ≡ Some ks → AreAdjacent first ks
+adjacent first [] ks h = let e : [] ≡ ks = cc in subst (AreAdjacent first) e tt
+adjacent first (t ∷ ts) ks h =
+    some_row first t (kind_in first t) (λ k. kinds_from (first + k.count) ts) ks refl (λ k js is. adjacent (first + k.count) ts js is) h
 
-of_tables : (o : Option (List Members)) (ks : List (Kind × Members)) → option_and_then (kinds_from 0) o ≡ Some ks → InRow 0 ks
+of_tables : (o : Option (List Members)) (ks : List (Kind × Members)) → option_and_then (kinds_from 0) o ≡ Some ks → AreAdjacent 0 ks
 of_tables None ks h = cc
-of_tables (Some ts) ks h = in_row 0 ts ks h
+of_tables (Some ts) ks h = adjacent 0 ts ks h
 
-pub file_in_row : (file : Members) (ks : List (Kind × Members)) → kinds_of file ≡ Some ks → InRow 0 ks
+pub file_adjacent : (file : Members) (ks : List (Kind × Members)) → kinds_of file ≡ Some ks → AreAdjacent 0 ks
 unfolding kinds_of
-file_in_row file ks h = of_tables (kind_tables file) ks h
+file_adjacent file ks h = of_tables (kind_tables file) ks h
 
 -- 4. The law
 
-later : (first : ℕ) (k : Kind × Members) (r : KindRules) (ks : List (Kind × Members)) (rs : List KindRules) → InRow first ks → IsPair k r ks rs → first ≤ k.0.first
+later : (first : ℕ) (k : Kind × Members) (r : KindRules) (ks : List (Kind × Members)) (rs : List KindRules) → AreAdjacent first ks → IsPair k r ks rs → first ≤ k.0.first
 later first k r [] rs row pair = absurd pair
 later first k r (j ∷ js) [] row pair = absurd pair
 later first k r (j ∷ js) (s ∷ ss) row (inl (e, f)) = let g : k.0.first ≡ j.0.first = ap (λ z. z.0.first) e in omega (arith, g, row.0)
@@ -194,7 +194,7 @@ later first k r (j ∷ js) (s ∷ ss) row (inr pair) = let g = later (first + j.
 
 module _ (rule : KindRules → List Statement) (file : Members) (all : List (Kind × Members)) (k : Kind × Members) (r : KindRules) (tables : List (List ℕ)) (p : Progress)
     (low : k.0.first ≤ p.context.process) (high : p.context.process < k.0.first + k.0.count) where
-  runs : (first : ℕ) (ks : List (Kind × Members)) (rs : List KindRules) (whole : List Statement) → InRow first ks → AreKinds file all ks rs → IsByKind rule rs whole → IsPair k r ks rs
+  runs : (first : ℕ) (ks : List (Kind × Members)) (rs : List KindRules) (whole : List Statement) → AreAdjacent first ks → AreKinds file all ks rs → IsByKind rule rs whole → IsPair k r ks rs
       → after_all tables whole p ≡ after_all tables (rule r) p
   runs first [] rs whole row are by pair = absurd pair
   runs first (j ∷ js) [] whole row are by pair = absurd pair
@@ -215,7 +215,7 @@ module _ (rule : KindRules → List Statement) (file : Members) (all : List (Kin
 
 pub runs_its_kind : RunsItsKind
 runs_its_kind rule file kinds rules whole k r tables p kinds_are are by pair low high =
-    runs rule file kinds k r tables p low high 0 kinds rules whole (file_in_row file kinds kinds_are) are by pair
+    runs rule file kinds k r tables p low high 0 kinds rules whole (file_adjacent file kinds kinds_are) are by pair
 
 -- 5. What the rule costs
 

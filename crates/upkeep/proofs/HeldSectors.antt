@@ -1,14 +1,11 @@
 -- The sectors of a disk of which memory holds only some.
-use Rattle.std.proofs.Common.{◌≡◌, ◌<◌, ◌≤◌, ⊎_elim, subst, ◌++◌, ◌∷◌, ◌∙◌, ℕ, zero, suc, Bool, true, false, List, [], length, get_or, set, map, refl, sym, ap, arith}
+use Rattle.std.proofs.Common.{◌≡◌, ◌<◌, ◌≤◌, ⊎_elim, subst, ◌++◌, ◌∷◌, ◌∙◌, ℕ, suc, Bool, true, false, List, [], length, get_or, set, map, refl, sym, ap, arith}
 use Rattle.std.specs.Prelude.{nat_lt, replicate}
 use Rattle.std.proofs.lemmas.List.{get_or-map, get_or_append_left, get_or_push, length-append, length-map, map-set}
 use Rattle.std.proofs.lemmas.Bool.{cases_lt}
 use Rattle.disk.specs.Disk.{IsSector}
+use Rattle.eventkey.proofs.Lists.{map-replicate}
 use Rattle.upkeep.specs.Part.{AreSectors}
-
-pub map-replicate : {A B : Type 0} (f : A → B) (n : ℕ) (x : A) → map f (replicate n x) ≡ replicate n (f x)
-map-replicate f zero x = refl
-map-replicate f (suc n) x = ap (λ l. f x ∷ l) (map-replicate f n x)
 
 -- one more sector is kept: no other content changes
 pub one_more : (places : List ℕ) (kept more : List (List ℕ)) → ((n : ℕ) → get_or places n 0 < length kept) → map (λ p. get_or (kept ++ more) p []) places ≡ map (λ p. get_or kept p []) places

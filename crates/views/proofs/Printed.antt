@@ -17,15 +17,6 @@ use Rattle.views.specs.Views.{Begins, Describes, IsCommitted, IsSimulationSoFar,
 use Rattle.views.specs.declared.fault.ViewFault.{ViewFault}
 use Rattle.views.specs.declared.fault.ViewFault.TheVariants as fault
 
--- what is known of the value of a call, or of its fault
-pub at_ok : {T E X : Type 0} {r : Result T E} {x : T} → r ≡ Ok x → OnOk r X → X
-at_ok {r = Ok x} e h = h
-at_ok {r = Err x} e h = cc
-
-pub at_err : {T E X : Type 0} {r : Result T E} {f : E} → r ≡ Err f → OnErr r X → X
-at_err {r = Ok x} e h = cc
-at_err {r = Err x} e h = h
-
 pub on_any : {T E X : Type 0} (r : Result T E) → X → OnErr r X
 on_any (Ok x) h = tt
 on_any (Err e) h = h

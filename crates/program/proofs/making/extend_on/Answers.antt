@@ -3,7 +3,8 @@ use Rattle.std.specs.Option.{option_map}
 use Rattle.disk.specs.FileDisks.{disk_of_file}
 use Rattle.model.specs.Origins.{continued}
 use Rattle.program.proofs.Calls.{continued_as}
-use Rattle.program.proofs.Printed.{at_err, carried_begun, on_command}
+use Rattle.eventkey.proofs.Writers.{at_err}
+use Rattle.program.proofs.Printed.{carried_begun, on_command}
 use Rattle.program.proofs.making.extend_on.Goals as goal
 
 pub returns-clause-err : goal.returns-clause-err

@@ -1,4 +1,5 @@
-use Rattle.program.proofs.Printed.{anew_begun, anew_printed, at_err, at_ok, on_command}
+use Rattle.eventkey.proofs.Writers.{at_err, at_ok}
+use Rattle.program.proofs.Printed.{anew_begun, anew_printed, on_command}
 use Rattle.program.proofs.making.migrate_on.Goals as goal
 
 pub returns-in-Ok-outcome-clause-ok : goal.returns-in-Ok-outcome-clause-ok

@@ -1,6 +1,6 @@
 use Rattle.std.proofs.Common.{[], sym, inr}
 use Rattle.std.proofs.lemmas.List.{append-nil}
-use Rattle.program.proofs.Printed.{at_ok}
+use Rattle.eventkey.proofs.Writers.{at_ok}
 use Rattle.program.proofs.running.run_traced.Goals as goal
 
 -- the run has printed its output, but a part of the trace was not written

@@ -1,6 +1,5 @@
 use Rattle.std.proofs.Common.{codes}
-use Rattle.eventkey.proofs.Writers.{writes_failed, writes_no_more, writes_then, writes_whole, wrote}
-use Rattle.program.proofs.Printed.{writes_last}
+use Rattle.eventkey.proofs.Writers.{writes_failed, writes_last, writes_no_more, writes_then, writes_whole, wrote}
 use Rattle.program.proofs.version.write_version.Goals as goal
 
 pub returns-in_err-write_text : goal.returns-in_err-write_text

@@ -1,6 +1,5 @@
 use Rattle.std.proofs.Common.{codes, refl}
-use Rattle.runs.proofs.Printed.{writes_last}
-use Rattle.eventkey.proofs.Writers.{writes_as, writes_failed, writes_then, writes_whole, wrote}
+use Rattle.eventkey.proofs.Writers.{writes_as, writes_failed, writes_last, writes_then, writes_whole, wrote}
 use Rattle.runs.proofs.commands.printing.write_formatted.Goals as goal
 
 pub returns-in_err-write_number-clause-written : goal.returns-in_err-write_number-clause-written

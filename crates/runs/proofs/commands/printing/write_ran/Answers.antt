@@ -1,6 +1,5 @@
 use Rattle.std.proofs.Common.{codes, decimal, ◌++◌}
-use Rattle.runs.proofs.Printed.{writes_last}
-use Rattle.eventkey.proofs.Writers.{writes_failed, writes_no_more, writes_then, writes_whole, wrote}
+use Rattle.eventkey.proofs.Writers.{writes_failed, writes_last, writes_no_more, writes_then, writes_whole, wrote}
 use Rattle.runs.proofs.commands.printing.write_ran.Goals as goal
 
 pub returns-in_err-write_nodes-clause-written : goal.returns-in_err-write_nodes-clause-written

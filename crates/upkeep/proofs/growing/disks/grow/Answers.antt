@@ -6,7 +6,7 @@ use Rattle.recovery.specs.Represents.{IsGenuine}
 use Rattle.recovery.proofs.Crashes.{looked-keeps, looked-under}
 use Rattle.recovery.proofs.OldRecords.{looks_at_old}
 use Rattle.upkeep.specs.Growing.{GrowingIsRefused, NamesFailure}
-use Rattle.upkeep.proofs.Devices.{at_ok}
+use Rattle.eventkey.proofs.Writers.{at_ok}
 use Rattle.upkeep.proofs.Staying.{genuine_stays, grown_from, old_records_stay, recovery_stays, refused_from, under_its_end_stays, kept_call, wanting}
 use Rattle.upkeep.proofs.growing.disks.grow.Goals as goal
 
