@@ -6,7 +6,7 @@ use Rattle.commitlog.specs.Records.{open_bytes}
 use Rattle.model.specs.Origins.{continued}
 use Rattle.upkeep.specs.Verified.{IsOfWorld}
 use Rattle.views.specs.Reading.{believed_line}
-use Rattle.views.proofs.Segments.{believed_is}
+use Rattle.disk_commands.proofs.Printed.{believed_is}
 use Rattle.disk_commands.specs.Disks.{IsReopenedText, reopened_text}
 use Rattle.views.proofs.Printed.{begins_written, prints_written}
 use Rattle.disk_commands.proofs.disks.reopen_on.Goals as goal

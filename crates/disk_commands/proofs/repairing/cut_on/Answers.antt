@@ -4,7 +4,7 @@ use Rattle.std.specs.Option.{option_map}
 use Rattle.segments.specs.Archiving.{IsBegunAt}
 use Rattle.model.specs.Origins.{continued}
 use Rattle.views.specs.Reading.{believed_line}
-use Rattle.views.proofs.Segments.{believed_is}
+use Rattle.disk_commands.proofs.Printed.{believed_is}
 use Rattle.disk_commands.specs.Repairing.{IsCutText, cut_text, taken_text}
 use Rattle.views.proofs.Printed.{begins_written, prints_written}
 use Rattle.disk_commands.proofs.repairing.cut_on.Goals as goal

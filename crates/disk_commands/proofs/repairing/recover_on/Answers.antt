@@ -8,8 +8,7 @@ use Rattle.upkeep.specs.Salvaging.{IsSalvaged}
 use Rattle.views.specs.Reading.{believed_line}
 use Rattle.disk_commands.specs.Repairing.{IsRecoveredText, recovered_text}
 use Rattle.views.proofs.Printed.{begins_written, prints_written}
-use Rattle.disk_commands.proofs.Printed.{if_ok}
-use Rattle.views.proofs.Segments.{believed_is}
+use Rattle.disk_commands.proofs.Printed.{believed_is, if_ok}
 use Rattle.disk_commands.proofs.repairing.recover_on.Goals as goal
 
 pub returns-clause-ok : goal.returns-clause-ok
