@@ -1,17 +1,16 @@
 // Whole sessions, as calls of a history of the headline.
 
-ghost use Rattle.std.specs.Prelude.{◌≡◌, ◌<◌, ◌≤◌, ◌^◌, ℕ, IfSome, IsSome, None, Some, length, map};
+ghost use Rattle.std.specs.Prelude.{◌≡◌, ◌<◌, ℕ, IfSome, IsSome, None, Some, length, map};
 ghost use Rattle.std.specs.Prelude.{take};
 ghost use Rattle.coordinator.specs.Headline.{IsResumed, JudgedSessionsGoOn, RecordsStay};
 ghost use Rattle.coordinator.specs.Headline.{SessionsGoOn};
 ghost use Rattle.recovery.specs.OldRecords.{KeepsOldRecords};
 ghost use Rattle.recovery.specs.Represents.{Recovers};
-ghost use Rattle.coordinator.specs.Opening.{AllFresh, AllFaithful, IsResourceFaultAtOpening};
+ghost use Rattle.coordinator.specs.Opening.{AllFaithful, IsResourceFaultAtOpening, MayOpen};
 ghost use Rattle.coordinator.specs.Opening.{OpeningIsRefused};
 ghost use Rattle.coordinator.specs.PortFaults.{LocalSessionsHaveNoFrames};
 ghost use Rattle.coordinator.specs.Steps.{move_of};
 ghost use Rattle.model.specs.World.{World};
-ghost use Rattle.node.specs.Node.{most_nodes};
 
 use crate::{DriveFault, Session, SessionFault, Step};
 use disk::{NotOpened, SectorDisk};
@@ -47,11 +46,7 @@ pub fn resume<M: Simulated, P: Port + Drop, D: SectorDisk>(
     end: u64,
     steps: &[Step],
 ) -> Resumed<D>
-    requires some { 1 ≤ length ports.items }
-    requires few { length ports.items ≤ most_nodes }
-    requires fresh { AllFresh (map P.state ports.items) }
-    requires begun { 1 ≤ end }
-    requires short { end ≤ 2 ^ 40 }
+    requires possible { MayOpen P.state ports.items end }
 
     // The headline for one session, whatever front was acknowledged last on the disk.
     ensures kept { let made = map move_of (take result.done steps.now) in

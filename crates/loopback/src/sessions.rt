@@ -1,15 +1,14 @@
 // Whole sessions over nodes behind bytes.
 
-ghost use Rattle.std.specs.Prelude.{◌≡◌, ◌<◌, ◌≤◌, ◌^◌, ℕ, IfErr, IfOk, IfSome, IsSome, None};
+ghost use Rattle.std.specs.Prelude.{◌≡◌, ◌<◌, ℕ, IfErr, IfOk, IfSome, IsSome, None};
 ghost use Rattle.std.specs.Prelude.{length, map, replicate, take};
 ghost use Rattle.recovery.specs.Represents.{Recovers};
 ghost use Rattle.coordinator.specs.Headline.{IsResumed};
-ghost use Rattle.coordinator.specs.Opening.{IsResourceFaultAtOpening, OpeningIsRefused};
+ghost use Rattle.coordinator.specs.Opening.{IsResourceFaultAtOpening, MayRun, OpeningIsRefused};
 ghost use Rattle.coordinator.specs.Steps.{move_of};
 ghost use Rattle.loopback.specs.Loop.{state_of};
 ghost use Rattle.loopback.specs.declared.port.Held.TheVariants.{Fresh};
 ghost use Rattle.model.specs.World.{World};
-ghost use Rattle.node.specs.Node.{most_nodes};
 
 use crate::ports::loop_ports;
 use coordinator::{Resumed, Step, resume};
@@ -31,10 +30,7 @@ pub fn resume_behind_bytes<M: Simulated, D: SectorDisk + Drop>(
     end: u64,
     steps: &[Step],
 ) -> Result<Resumed<D>, D>
-    requires some { 1 ≤ nodes }
-    requires few { nodes ≤ most_nodes }
-    requires begun { 1 ≤ end }
-    requires short { end ≤ 2 ^ 40 }
+    requires possible { MayRun nodes end }
 
     // The headline for one session, whatever front was acknowledged last on the disk.
     ensures kept { IfOk result (λ left. let made = map move_of (take left.done steps.now)

@@ -15,7 +15,7 @@ ghost use Rattle.program.specs.Command.{IsWithoutOutput};
 ghost use Rattle.frames.specs.Socket.{state_of};
 ghost use Rattle.frames.specs.declared.port.Held.TheVariants.{Fresh};
 ghost use Rattle.views.specs.Reading.{BeginsWith};
-ghost use Rattle.node.specs.Node.{most_nodes};
+ghost use Rattle.coordinator.specs.Opening.{MayRun};
 
 use crate::parts::{Archive, Tried, archived};
 use crate::plainly::attempt_plainly;
@@ -139,10 +139,7 @@ where
     R: Files<File = File> + Net + Processes + Clock + AllocGlobal,
     P: Progress,
     O: Write,
-    requires nodes { 1 ≤ args.nodes }
-    requires few { args.nodes ≤ most_nodes }
-    requires some { 1 ≤ of.now.end }
-    requires short { of.now.end ≤ 2 ^ 40 }
+    requires possible { MayRun args.nodes of.now.end }
     requires sound { CanBegin (M.meaning of.now.model).lps begun.origin }
     requires begins { BeginsWith (M.meaning of.now.model).lps begun.disk.reads begun.origin }
     // Unless node programs are trusted, the run is a list of calls of a history on its disk, and on
@@ -227,10 +224,7 @@ where
     R: Files<File = File> + Net + Processes + Clock + AllocGlobal,
     P: Progress,
     O: Write,
-    requires nodes { 1 ≤ args.nodes }
-    requires few { args.nodes ≤ most_nodes }
-    requires some { 1 ≤ of.now.end }
-    requires short { of.now.end ≤ 2 ^ 40 }
+    requires possible { MayRun args.nodes of.now.end }
     requires sound { CanBegin (M.meaning of.now.model).lps (option_map (λ o. o.now) origin) }
     ensures next { IfOk result (λ ended. IfOk ended (λ next. (out.new ≡ out.old)
         × IsFollowed (trusts_nodes args.entry)
@@ -266,10 +260,7 @@ where
     R: Files<File = File> + Net + Processes + Clock + AllocGlobal,
     P: Progress,
     O: Write,
-    requires nodes { 1 ≤ args.nodes }
-    requires few { args.nodes ≤ most_nodes }
-    requires some { 1 ≤ of.now.end }
-    requires short { of.now.end ≤ 2 ^ 40 }
+    requires possible { MayRun args.nodes of.now.end }
     requires sound { CanBegin (M.meaning of.now.model).lps (option_map (λ o. o.now) origin) }
     ensures last { IfOk result (λ last. IsLastAttempt (trusts_nodes args.entry)
         (continued (M.meaning of.now.model) (option_map (λ o. o.now) origin.entry)) of.now.end
@@ -300,10 +291,7 @@ where
     R: Files<File = File> + Net + Processes + Clock + AllocGlobal,
     P: Progress,
     O: Write,
-    requires nodes { 1 ≤ args.nodes }
-    requires few { args.nodes ≤ most_nodes }
-    requires some { 1 ≤ of.now.end }
-    requires short { of.now.end ≤ 2 ^ 40 }
+    requires possible { MayRun args.nodes of.now.end }
     ensures tried { IfOk result (λ ended. IsAttemptBy (trusts_nodes args.entry)
         (M.meaning of.now.model) of.now.end (nodes_of args.entry) (disk_of_file disk)
         (disk_of_file ended.disk) ended.outcome (out.new ≡ out.old) (O.contents out.old)
@@ -350,10 +338,7 @@ where
     R: Files<File = File> + Clock,
     P: Progress,
     O: Write,
-    requires nodes { 1 ≤ plan.nodes }
-    requires few { plan.nodes ≤ most_nodes }
-    requires some { 1 ≤ of.now.end }
-    requires short { of.now.end ≤ 2 ^ 40 }
+    requires possible { MayRun plan.nodes of.now.end }
     ensures { IsAttempt (M.meaning of.now.model) of.now.end plan.nodes (disk_of_file disk)
         (disk_of_file result.disk) result.outcome (out.new ≡ out.old) (O.contents out.old)
         (O.contents out.new) }
@@ -410,10 +395,7 @@ where
     R: Files<File = File> + Net + Processes + Clock + AllocGlobal,
     P: Progress,
     O: Write,
-    requires nodes { 1 ≤ plan.nodes }
-    requires few { plan.nodes ≤ most_nodes }
-    requires some { 1 ≤ of.now.end }
-    requires short { of.now.end ≤ 2 ^ 40 }
+    requires possible { MayRun plan.nodes of.now.end }
     ensures tried { IfOk result (λ ended. IsAttemptBy (not plan.judged) (M.meaning of.now.model)
         of.now.end plan.nodes (disk_of_file disk) (disk_of_file ended.disk) ended.outcome
         (out.new ≡ out.old) (O.contents out.old) (O.contents out.new)) }
@@ -460,12 +442,9 @@ where
     R: Files<File = File> + Clock,
     P: Progress,
     O: Write,
-    requires nodes { 1 ≤ plan.nodes }
-    requires few { plan.nodes ≤ most_nodes }
+    requires possible { MayRun plan.nodes of.now.end }
     requires ports { map (λ p. state_of p.held) ports.items ≡ replicate plan.nodes
         (state_of Fresh) }
-    requires some { 1 ≤ of.now.end }
-    requires short { of.now.end ≤ 2 ^ 40 }
     ensures tried { IfOk result (λ ended. IsAttemptBy (not plan.judged) (M.meaning of.now.model)
         of.now.end plan.nodes (disk_of_file disk) (disk_of_file ended.disk) ended.outcome
         (out.new ≡ out.old) (O.contents out.old) (O.contents out.new)) }

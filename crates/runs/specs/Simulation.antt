@@ -1,22 +1,26 @@
 -- What a simulation on a disk leaves and returns, and why a call fails.
-use Rattle.std.specs.Prelude.{ℕ, Err, List, None, Ok, Option, Result, Some, ◌≡◌, ◌⊎◌}
+use Rattle.std.specs.Prelude.{ℕ, Err, IfOk, IsErrOf, List, None, Ok, OnOk, Option, Result, Some, ◌≡◌, ◌⊎◌}
 use Rattle.commitlog.specs.Faults.{FormatIsRefused, OpenIsRefused}
 use Rattle.commitlog.specs.Records.{IsBlank, IsFormatted, records_of}
 use Rattle.commitlog.specs.declared.fault.LogFault.TheVariants as log
 use Rattle.commitlog.specs.declared.records.Entry.{Entry}
 use Rattle.coordinator.specs.Opening.{IsAtFault}
+use Rattle.coordinator.specs.PortFaults.{IsFaultInProgram}
+use Rattle.coordinator.specs.declared.SessionFault.TheVariants.{Port}
+use Rattle.disk.specs.Disk.{DiskState}
 use Rattle.disk.specs.declared.disk.DiskFault.TheVariants.{Device}
+use Rattle.disk.specs.declared.returned.Returned.{Returned}
 use Rattle.disk.specs.declared.file.FileFault.{FileFault}
 use Rattle.disk.specs.declared.file.FileFault.TheVariants as opening
 use Rattle.runs.specs.declared.rounds.RunFault.{RunFault}
 use Rattle.runs.specs.declared.rounds.RunFault.TheVariants as run
 use Rattle.model.specs.Meaning.{Meaning}
 use Rattle.model.specs.Runner.{Simulation}
-use Rattle.model.specs.World.{World}
+use Rattle.model.specs.World.{IsUpto, World}
 use Rattle.recovery.specs.Ends.{HoldsLog}
 use Rattle.recovery.specs.Front.{world_of}
 use Rattle.recovery.specs.Replay.{in_force}
-use Rattle.recovery.specs.Represents.{Represents, RepresentsAtLeast}
+use Rattle.recovery.specs.Represents.{Recovers, Represents, RepresentsAtLeast}
 use Rattle.recovery.specs.declared.RecoveryFault.{RecoveryFault}
 use Rattle.recovery.specs.declared.RecoveryFault.TheVariants as recovery
 use Rattle.runs.specs.declared.over.Finished.{Finished}
@@ -24,6 +28,7 @@ use Rattle.runs.specs.declared.simulating.Outcome.{Outcome}
 use Rattle.runs.specs.declared.fault.SimulationFault.{SimulationFault}
 use Rattle.runs.specs.declared.fault.SimulationFault.TheVariants.{File, Log, NoMemory}
 use Rattle.runs.specs.declared.fault.SimulationFault.TheVariants.{Recovery, Rounds, Session, Stopped}
+use Rattle.wire.specs.declared.port.PortFault.{PortFault}
 
 -- 1. What remains on the disk
 
@@ -34,6 +39,20 @@ IsBlankOrRepresents m end w image = IsBlank image ⊎ Represents m end image w
 -- an image without a log, or one that represents some world
 abbrev pub IsBlankOrRepresentsSo : Meaning → ℕ → List (List ℕ) → Type 0
 IsBlankOrRepresentsSo m end image = IsBlank image ⊎ RepresentsAtLeast m end 0 image
+
+-- What a simulation returns from a disk without a log, or whose records are genuine.
+pub record IsSimulated {D : Type 0} (disk : D → DiskState) (m : Meaning) (end : ℕ)
+    (result : Returned D Outcome SimulationFault) : Type 0 where
+  -- It is the sequential simulation up to the end, which the disk represents.
+  pub finished : IfOk result.outcome (λ outcome. IsUpto m end end (world_of outcome.front))
+  pub represents : IfOk result.outcome (λ outcome.
+      Represents m end (disk result.disk).reads (world_of outcome.front))
+  -- A crash now leaves a world that is not before the end.
+  pub committed : OnOk result.outcome (Recovers m end end (disk result.disk))
+  -- A fault of a port is that of a node: its memory is exhausted, or a handling would pass the
+  -- number limit.
+  pub faults : (fault : PortFault) → IsErrOf result.outcome (Session (Port fault)) →
+      IsFaultInProgram fault
 
 -- 2. Faults; `failed` says that the device failed during the call
 

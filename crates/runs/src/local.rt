@@ -1,11 +1,11 @@
 // Runs over nodes in this program.
 
-ghost use Rattle.std.specs.Prelude.{◌≡◌, ◌<◌, ◌≤◌, ◌^◌, IfErr, IfOk, map, replicate};
+ghost use Rattle.std.specs.Prelude.{◌≡◌, IfErr, IfOk, map, replicate};
+ghost use Rattle.coordinator.specs.Opening.{MayRun};
 ghost use Rattle.recovery.specs.OldRecords.{KeepsOldRecords};
 ghost use Rattle.runs.specs.Runs.{IsRunInProgram};
 ghost use Rattle.wire.specs.Local.{state_of};
 ghost use Rattle.wire.specs.declared.local.Held.TheVariants.{Fresh};
-ghost use Rattle.node.specs.Node.{most_nodes};
 
 use crate::over::{Finished, run_over};
 use crate::rounds::{Plan, RunFault, Watch};
@@ -28,10 +28,7 @@ pub fn run_local<M: Simulated, D: SectorDisk + Drop, W: Watch>(
     plan: Plan,
     watch: &mut W,
 ) -> Returned<D, Finished, RunFault>
-    requires some { 0 < plan.nodes }
-    requires few { plan.nodes ≤ most_nodes }
-    requires begun { 1 ≤ end }
-    requires short { end ≤ 2 ^ 40 }
+    requires possible { MayRun plan.nodes end }
     // It makes the plan's rounds and nothing else, or has a cause for its fault; at every exit it has
     // committed the sequential simulation; and its nodes fail only if a resource is exhausted.
     ensures run { IsRunInProgram M.meaning D.state model.now end plan disk result.disk

@@ -1,10 +1,9 @@
 // Whole runs on a disk.
 
-ghost use Rattle.std.specs.Prelude.{◌≡◌, ◌<◌, ◌≤◌, ◌^◌, length, map};
-ghost use Rattle.coordinator.specs.Opening.{AllFresh};
+ghost use Rattle.std.specs.Prelude.{◌≡◌, length, map};
+ghost use Rattle.coordinator.specs.Opening.{MayOpen};
 ghost use Rattle.recovery.specs.OldRecords.{KeepsOldRecords};
 ghost use Rattle.runs.specs.Runs.{IsRun};
-ghost use Rattle.node.specs.Node.{most_nodes};
 
 use crate::rounds::{Plan, RunFault, Watch, run_session};
 use coordinator::Session;
@@ -46,12 +45,8 @@ pub fn run_over<M: Simulated, P: Port + Drop, D: SectorDisk + Drop, W: Watch>(
     plan: Plan,
     watch: &mut W,
 ) -> Returned<D, Finished, RunFault>
-    requires some { 0 < plan.nodes }
-    requires few { plan.nodes ≤ most_nodes }
     requires each { length ports.items ≡ plan.nodes }
-    requires fresh { AllFresh (map P.state ports.items) }
-    requires begun { 1 ≤ end }
-    requires short { end ≤ 2 ^ 40 }
+    requires possible { MayOpen P.state ports.items end }
     // Over any ports it makes the plan's rounds and nothing else, or has a cause for its fault. If its
     // commits are judged or its ports are faithful, it commits the sequential simulation; and over
     // faithful ports it fails for a fault of theirs only if a resource is exhausted.

@@ -1,6 +1,6 @@
 // The commands on a disk.
 
-ghost use Rattle.std.specs.Prelude.{◌≡◌, ◌≢◌, ◌≤◌, ◌<◌, ◌^◌, ℕ, Err, IfErr, IfOk, IsOkUnless};
+ghost use Rattle.std.specs.Prelude.{◌≡◌, ◌≢◌, ◌≤◌, ◌<◌, ◌^◌, ℕ, Err, IfErr, IfOk};
 ghost use Rattle.std.specs.Prelude.{None, OnOk, Option, length, map, option_map};
 ghost use Rattle.runs.specs.Commands.{IsBlankOrRepresents, IsNewLog, IsOfSession, IsPrinted};
 ghost use Rattle.runs.specs.Commands.{LookingIsRefused, MakesRun, MakingIsRefused, OnDone};
@@ -11,7 +11,7 @@ ghost use Rattle.recovery.specs.Crashes.{KeepsRecovery, RecoversUnderItsEnd};
 ghost use Rattle.recovery.specs.Represents.{Recovers, IsGenuine};
 ghost use Rattle.recovery.specs.OldRecords.{KeepsOldRecords};
 ghost use Rattle.coordinator.specs.Extending.{ExtendingIsRefused, KeepsRecords};
-ghost use Rattle.coordinator.specs.Opening.{AllFresh};
+ghost use Rattle.coordinator.specs.Opening.{MayOpen, MayRun};
 ghost use Rattle.disk.specs.Disk.{IsSynced, LeavesOnly};
 ghost use Rattle.model.specs.Meaning.{Meaning};
 ghost use Rattle.model.specs.World.{opening, World};
@@ -22,7 +22,6 @@ ghost use Rattle.recovery.specs.Replay.{IsReplayedTo, in_force};
 ghost use Rattle.runs.specs.Runs.{IsRun, IsRunInProgram};
 ghost use Rattle.std.specs.Io.KnownBytes.{Appends};
 ghost use Rattle.eventkey.specs.Writing.{TakesBeginning};
-ghost use Rattle.node.specs.Node.{most_nodes};
 
 use crate::commands::CommandFault;
 use crate::commands::printing::{write_extended, write_formatted, write_ran};
@@ -93,10 +92,7 @@ pub fn run<M: Modelled, D: SectorDisk + Drop, O: Write, W: Watch>(
     watch: &mut W,
     out: &mut O,
 ) -> Returned<D, (), CommandFault>
-    requires nodes { 0 < plan.nodes }
-    requires few { plan.nodes ≤ most_nodes }
-    requires some { 1 ≤ of.now.end }
-    requires short { of.now.end ≤ 2 ^ 40 }
+    requires possible { MayRun plan.nodes of.now.end }
     // It makes a run over nodes in this program, and prints its numbers.
     ensures run { MakesRun numbers_of (IsRunInProgram M.meaning D.state of.now.model of.now.end plan
         disk result.disk) result.outcome (out.new ≡ out.old) (O.contents out.old)
@@ -134,12 +130,8 @@ pub fn run_over<M: Modelled, P: Port + Drop, D: SectorDisk + Drop, O: Write, W: 
     watch: &mut W,
     out: &mut O,
 ) -> Returned<D, (), CommandFault>
-    requires nodes { 0 < plan.nodes }
-    requires few { plan.nodes ≤ most_nodes }
     requires each { length ports.items ≡ plan.nodes }
-    requires fresh { AllFresh (map P.state ports.items) }
-    requires some { 1 ≤ of.now.end }
-    requires short { of.now.end ≤ 2 ^ 40 }
+    requires possible { MayOpen P.state ports.items of.now.end }
     // It makes a run over these ports, and prints its numbers.
     ensures run { MakesRun numbers_of (IsRun M.meaning P.state D.state of.now.model of.now.end plan
         (map P.state ports.items) disk result.disk) result.outcome (out.new ≡ out.old)

@@ -30,7 +30,7 @@ returns-in-Ok-drive-clause-kept g c = λ are_faithful v.
     c.in-Ok.ensures.opened.replayed (kept-on _ _ _ _ v.time c.in-Ok.session.front.time old _ model_is end_is begun.crashes begun.recovers) (running g.M.Model.meaning g.P.Port.state c.in-Ok.session) model_is end_is (map move_of (take c.in-Ok-drive.done c.args.steps.now))
     (running g.M.Model.meaning g.P.Port.state c.drive.new.self) c.drive.new.self.front (g.D.SectorDisk.state c.drive.new.self.log.disk)
     (λ recovers. (is.consistent (genuine recovers), is.system (genuine recovers))) (λ consistent. made-all c.in-Ok-drive.done c.args.steps.now _ _ c.in-Ok-drive.ensures.count (c.in-Ok-drive.ensures.made consistent)) refl
-    (λ recovers. driven-on _ _ _ _ c.in-Ok.session.front c.drive.new.self.front c.in-Ok.session.log _ _ model_is end_is (c.drive.ensures.keeps.crashes (all-trusted (any_trusts c.args.steps.now) _ (is.consistent (genuine recovers)))) (c.in-Ok.ensures.genuine (genuine recovers)).written))
+    (λ recovers. driven-on _ _ _ _ c.in-Ok.session.front c.drive.new.self.front c.in-Ok.session.log _ _ model_is end_is (c.drive.ensures.keeps.crashes (all-trusted (any_trusts c.args.steps.now) _ (is.consistent (genuine recovers)))) (c.in-Ok.ensures.opened.genuine (genuine recovers)).written))
 
 pub returns-in-Err-drive-clause-kept : goal.returns-in-Err-drive-clause-kept
 returns-in-Err-drive-clause-kept g c = λ are_faithful v.
@@ -47,7 +47,7 @@ returns-in-Err-drive-clause-kept g c = λ are_faithful v.
     c.in-Ok.ensures.opened.replayed (kept-on _ _ _ _ v.time c.in-Ok.session.front.time old _ model_is end_is begun.crashes begun.recovers) (running g.M.Model.meaning g.P.Port.state c.in-Ok.session) model_is end_is (map move_of (take c.in-Err-drive.field-0.done c.args.steps.now))
     (running g.M.Model.meaning g.P.Port.state stopped.made) c.drive.new.self.front (g.D.SectorDisk.state c.drive.new.self.log.disk)
     (λ recovers. (is.consistent (genuine recovers), is.system (genuine recovers))) (λ consistent. stopped.moves consistent) (stopped-front _ _ _ _ _ _ _ stopped)
-    (λ recovers. driven-on _ _ _ _ c.in-Ok.session.front c.drive.new.self.front c.in-Ok.session.log _ _ model_is end_is (c.drive.ensures.keeps.crashes (all-trusted (any_trusts c.args.steps.now) _ (is.consistent (genuine recovers)))) (c.in-Ok.ensures.genuine (genuine recovers)).written))
+    (λ recovers. driven-on _ _ _ _ c.in-Ok.session.front c.drive.new.self.front c.in-Ok.session.log _ _ model_is end_is (c.drive.ensures.keeps.crashes (all-trusted (any_trusts c.args.steps.now) _ (is.consistent (genuine recovers)))) (c.in-Ok.ensures.opened.genuine (genuine recovers)).written))
 
 pub returns-in-Err-clause-old_records : goal.returns-in-Err-clause-old_records
 returns-in-Err-clause-old_records g c = looks_at_old (g.D.SectorDisk.state c.args.disk) _ c.in-Err.ensures.not_opened.looks

@@ -1,8 +1,9 @@
-use Rattle.std.proofs.Common.{Bool, inl, refl, sym, ◌∙◌, ◌≡◌}
+use Rattle.std.proofs.Common.{Bool, inl, refl, subst, sym, ℕ, ◌∙◌, ◌≡◌}
 use Rattle.std.proofs.lemmas.List.{length-map}
 use Rattle.std.specs.Prelude.{false, not}
 use Rattle.frames.proofs.Alike.{judged_alike}
 use Rattle.frames.specs.Judged.{judged_state}
+use Rattle.coordinator.specs.Opening.{MayRun}
 use Rattle.runs.proofs.Ports.{all_fresh, so_many}
 use Rattle.frames.specs.Socket.{state_of}
 use Rattle.frames.specs.declared.port.Held.TheVariants.{Fresh}
@@ -15,13 +16,13 @@ use Rattle.program.proofs.attempts.attempt_over.Goals as goal
 pub run_over-requires : goal.run_over-requires
 run_over-requires g c =
     let alike = judged_alike _ _ _ c.in_ok-judged.judged.items c.args.ports.items c.args.plan.nodes (state_of Fresh) c.in_ok-judged.ensures c.requires.ports in
+    let many = sym (length-map c.in_ok-judged.judged.items _) ∙ so_many c.args.plan.nodes (judged_state false (state_of Fresh)) _ alike in
     record {
-      nodes = c.requires.nodes;
-      few = c.requires.few;
-      each = sym (length-map c.in_ok-judged.judged.items _) ∙ so_many c.args.plan.nodes (judged_state false (state_of Fresh)) _ alike;
-      fresh = all_fresh c.args.plan.nodes (judged_state false (state_of Fresh)) _ alike refl;
-      some = c.requires.some;
-      short = c.requires.short;
+      each = many;
+      possible = record {
+        run = subst (λ (n : ℕ). MayRun n c.args.of.now.end) (sym many) c.requires.possible;
+        fresh = all_fresh c.args.plan.nodes (judged_state false (state_of Fresh)) _ alike refl;
+      };
     }
 
 pub returns-clause-tried : goal.returns-clause-tried

@@ -1,7 +1,8 @@
-use Rattle.std.proofs.Common.{List, inr, refl, subst, sym, ◌∙◌}
+use Rattle.std.proofs.Common.{List, inr, refl, subst, sym, ℕ, ◌∙◌}
 use Rattle.std.proofs.lemmas.List.{length-map}
 use Rattle.std.specs.Prelude.{IfErr, replicate}
 use Rattle.coordinator.proofs.PortFaults.{local-faults}
+use Rattle.coordinator.specs.Opening.{MayRun}
 use Rattle.coordinator.specs.PortFaults.{IsFaultInProgram, IsFaultOfPorts}
 use Rattle.disk.specs.Laws.{looks_none}
 use Rattle.recovery.proofs.OldRecords.{keeps_none}
@@ -16,13 +17,15 @@ use Rattle.runs.proofs.local.run_local.Goals as goal
 
 pub run_over-requires : goal.run_over-requires
 run_over-requires g c =
+    let ports = c.in-Ok.ensures.ports in
+    let unloaded = state_of (g.M.Model.meaning c.args.model.now) Fresh in
+    let many = sym (length-map c.in-Ok.ports.items _) ∙ so_many c.args.plan.nodes unloaded _ ports in
     record {
-      some = c.requires.some;
-      few = c.requires.few;
-      each = sym (length-map c.in-Ok.ports.items _) ∙ so_many c.args.plan.nodes (state_of (g.M.Model.meaning c.args.model.now) Fresh) _ c.in-Ok.ensures.ports;
-      fresh = all_fresh c.args.plan.nodes (state_of (g.M.Model.meaning c.args.model.now) Fresh) _ c.in-Ok.ensures.ports refl;
-      begun = c.requires.begun;
-      short = c.requires.short;
+      each = many;
+      possible = record {
+        run = subst (λ (n : ℕ). MayRun n c.args.end) (sym many) c.requires.possible;
+        fresh = all_fresh c.args.plan.nodes unloaded _ ports refl;
+      };
     }
 
 pub returns-clause-run : goal.returns-clause-run

@@ -63,11 +63,11 @@ returns-clause-run g c =
     let end_is = opened.opened.end_is in
     let replayed = opened.opened.replayed in
     let Trusts : Type 0 = TrustsOnlyFaithful plan m (map g.P.Port.state c.args.ports.items) in
-    let exactly : IsGenuine m end old.reads → LeavesExactly m end first.front mid = λ genuine. (opened.genuine genuine).exactly in
+    let exactly : IsGenuine m end old.reads → LeavesExactly m end first.front mid = λ genuine. (opened.opened.genuine genuine).exactly in
     let trusted : Trusts → IsGenuine m end old.reads → IsTrusted (trusts_by plan) (running meaning g.P.Port.state first) =
     λ only_faithful genuine. may_trust plan m (map g.P.Port.state c.args.ports.items) (running meaning g.P.Port.state first) (λ faithful. (opened.faithful faithful).consistent genuine) only_faithful in
     let driven : Trusts → IsGenuine m end old.reads → Recovers m end first.front.time mid → KeepsRecovery m end first.front.time front.time mid new =
-    λ only_faithful genuine. driven-on _ _ _ _ first.front front first.log _ _ (ap meaning model_is) end_is (c.run_session.ensures.keeps.crashes (trusted only_faithful genuine)) (opened.genuine genuine).written in
+    λ only_faithful genuine. driven-on _ _ _ _ first.front front first.log _ _ (ap meaning model_is) end_is (c.run_session.ensures.keeps.crashes (trusted only_faithful genuine)) (opened.opened.genuine genuine).written in
     let lawful = g.met.M.Model.lawful c.args.model.now in
     let sound = g.met.D.SectorDisk.sound c.args.disk in
     elim c.match-run_session.branch [
@@ -80,7 +80,7 @@ returns-clause-run g c =
             over = over_of meaning g.P.Port.state state c.args.model.now end plan (map g.P.Port.state c.args.ports.items) c.args.disk last.log.disk first last model_is end_is replayed refl _ by time_is events_are;
             cause = tt;
             simulation = λ only_faithful. reaches_end m end first.front front old mid new lawful sound opened.opened.looks replayed opened.crashes exactly (driven only_faithful) _ _ time_is events_are by.reached
-                (λ genuine. front_upto meaning g.P.Port.state state _ first last m end (ap meaning model_is) end_is by.in_rounds (trusted only_faithful genuine) (opened.genuine genuine).written);
+                (λ genuine. front_upto meaning g.P.Port.state state _ first last m end (ap meaning model_is) end_is by.in_rounds (trusted only_faithful genuine) (opened.opened.genuine genuine).written);
             faults = λ are_faithful genuine. tt;
           })
       | in-Err-run_session w ↦
@@ -97,7 +97,7 @@ returns-clause-run g c =
                   stop.0,
                   stop.1,
                   stop.2,
-                  λ genuine. front_upto meaning g.P.Port.state state _ first last m end (ap meaning model_is) end_is stop.3.2 (trusted only_faithful genuine) (opened.genuine genuine).written,
+                  λ genuine. front_upto meaning g.P.Port.state state _ first last m end (ap meaning model_is) end_is stop.3.2 (trusted only_faithful genuine) (opened.opened.genuine genuine).written,
                 ));
             faults = λ are_faithful genuine.
                 let faithful = opened.faithful are_faithful in

@@ -27,7 +27,7 @@ returns-in-Err-clause-crashes g c = c.prepare.ensures.crashes (g.M.Model.meaning
 
 pub returns-in-Err-clause-any_moment : goal.returns-in-Err-clause-any_moment
 returns-in-Err-clause-any_moment g c = λ in_sync blank.
-    made_so (g.M.Model.meaning c.args.model.now) c.args.end (g.D.SectorDisk.state c.args.disk) (g.D.SectorDisk.state c.prepare.new.disk) (c.prepare.ensures.any_moment in_sync blank (record { some = c.requires.begun; within = c.requires.short }))
+    made_so (g.M.Model.meaning c.args.model.now) c.args.end (g.D.SectorDisk.state c.args.disk) (g.D.SectorDisk.state c.prepare.new.disk) (c.prepare.ensures.any_moment in_sync blank c.requires.possible.ends)
 
 pub returns-in-Err-outcome-clause-crashes : goal.returns-in-Err-outcome-clause-crashes
 returns-in-Err-outcome-clause-crashes g c = λ a recovers.
@@ -39,49 +39,63 @@ returns-in-Err-outcome-clause-any_moment g c = λ in_sync blank.
     let m = g.M.Model.meaning c.args.model.now in
     let made = g.D.SectorDisk.state c.prepare.new.disk in
     then_so m c.args.end (g.D.SectorDisk.state c.args.disk) made (g.D.SectorDisk.state c.run-disk.result.disk)
-    (made_so m c.args.end (g.D.SectorDisk.state c.args.disk) made (c.prepare.ensures.any_moment in_sync blank (record { some = c.requires.begun; within = c.requires.short })))
-    (c.run-disk.ensures.run.1.simulation.crashes 0 (exactly_recovers m c.args.end made (c.in_default.ensures.made blank (record { some = c.requires.begun; within = c.requires.short }))))
+    (made_so m c.args.end (g.D.SectorDisk.state c.args.disk) made (c.prepare.ensures.any_moment in_sync blank c.requires.possible.ends))
+    (c.run-disk.ensures.run.1.simulation.crashes 0 (exactly_recovers m c.args.end made (c.in_default.ensures.made blank c.requires.possible.ends)))
 
-pub returns-in-Ok-outcome-clause-finished : goal.returns-in-Ok-outcome-clause-finished
-returns-in-Ok-outcome-clause-finished g c = λ genuine.
+pub returns-in-Err-clause-simulated : goal.returns-in-Err-clause-simulated
+returns-in-Err-clause-simulated g c = λ genuine. record {
+  finished = tt;
+  represents = tt;
+  committed = tt;
+  faults = λ fault is. absurd (not_of_preparing _ _ c.in-Err.fault (Port fault) (cc) c.in-Err.ensures.refused);
+}
+
+pub returns-in-Err-outcome-clause-simulated : goal.returns-in-Err-outcome-clause-simulated
+returns-in-Err-outcome-clause-simulated g c = λ genuine.
+    let m = g.M.Model.meaning c.args.model.now in
+    let made = g.D.SectorDisk.state c.prepare.new.disk in
+    let begun = prepared_genuine m c.args.end (g.D.SectorDisk.state c.args.disk) made (g.met.M.Model.lawful c.args.model.now) c.requires.possible.ends.within (g.met.D.SectorDisk.sound c.prepare.new.disk) (λ blank. c.in_default.ensures.made blank c.requires.possible.ends) c.prepare.ensures.looks genuine in
+    record {
+      finished = tt;
+      represents = tt;
+      committed = tt;
+      faults = λ fault is.
+          let cause : c.in-Err-outcome.fault ≡ Session (Port fault) = cc in
+          let run = c.run-disk.ensures.run in
+          let is_made = ran_refused run.0 (Port fault) (sym run.2 ∙ c.in-Err-outcome.is ∙ ap Err cause) in
+          (subst (λ (r : Result Finished RunFault). IfErr r (IsFaultOverFaithful IsFaultInProgram m c.args.end c.args.plan made.reads)) is_made (run.1.faults begun)).port fault refl;
+    }
+
+pub returns-in-Err-outcome-2-clause-simulated : goal.returns-in-Err-outcome-2-clause-simulated
+returns-in-Err-outcome-2-clause-simulated g c = λ genuine. record {
+  finished = tt;
+  represents = tt;
+  committed = tt;
+  faults = λ fault is. absurd (not_of_reading _ _ _ _ c.in-Err-outcome-2.fault (Port fault) (cc) (rw c.in-Err-outcome-2.is at c.committed-disk.ensures.refused));
+}
+
+pub returns-in-Ok-outcome-clause-simulated : goal.returns-in-Ok-outcome-clause-simulated
+returns-in-Ok-outcome-clause-simulated g c = λ genuine.
     let m = g.M.Model.meaning c.args.model.now in
     let made = g.D.SectorDisk.state c.prepare.new.disk in
     let ran = g.D.SectorDisk.state c.run-disk.result.disk in
-    let begun = prepared_genuine m c.args.end (g.D.SectorDisk.state c.args.disk) made (g.met.M.Model.lawful c.args.model.now) c.requires.short (g.met.D.SectorDisk.sound c.prepare.new.disk) (λ blank. c.in_default.ensures.made blank (record { some = c.requires.begun; within = c.requires.short })) c.prepare.ensures.looks genuine in
+    let begun = prepared_genuine m c.args.end (g.D.SectorDisk.state c.args.disk) made (g.met.M.Model.lawful c.args.model.now) c.requires.possible.ends.within (g.met.D.SectorDisk.sound c.prepare.new.disk) (λ blank. c.in_default.ensures.made blank c.requires.possible.ends) c.prepare.ensures.looks genuine in
     let over = ran_to m c.args.end made ran c.run-disk.ensures.run.0 c.in-Ok.field-0 (sym c.run-disk.ensures.run.2 ∙ c.in-Ok.is) c.run-disk.ensures.run.1.simulation in
     let ended = (over.genuine begun).1 in
     let left = recovers-genuine m c.args.end ran (g.met.D.SectorDisk.sound c.run-disk.result.disk) c.args.end ended in
     let outcome = c.in-Ok-outcome.front in
     let upto = rw c.in-Ok-outcome.is at (c.committed-disk.ensures.upto left) in
     let late : c.args.end ≤ outcome.g = rw c.in-Ok-outcome.is at (c.committed-disk.ensures.late c.args.end ended) in
-    at_end m c.args.end outcome.g (world_of outcome) upto.0 upto.1 late
+    let represents : Represents m c.args.end ran.reads (world_of outcome) = rw c.in-Ok-outcome.is at (c.committed-disk.ensures.represents left) in
+    record {
+      finished = at_end m c.args.end outcome.g (world_of outcome) upto.0 upto.1 late;
+      represents = subst (λ (image : List (List ℕ)). Represents m c.args.end image (world_of outcome)) (sym c.committed-disk.ensures.looks.same) represents;
+      committed = (looked-keeps m c.args.end c.args.end ran (g.D.SectorDisk.state c.committed-disk.result.disk) c.committed-disk.ensures.looks ended).now_on;
+      faults = λ fault is. absurd (cc);
+    }
 
 pub returns-in-Ok-outcome-clause-count : goal.returns-in-Ok-outcome-clause-count
 returns-in-Ok-outcome-clause-count g c = (ran_with (IsRunOver g.M.Model.meaning (state_by g.M.Model.meaning) g.D.SectorDisk.state c.args.model.now c.args.end c.args.plan c.prepare.new.disk c.run-disk.result.disk) c.run-disk.ensures.run.0 c.in-Ok.field-0 (sym c.run-disk.ensures.run.2 ∙ c.in-Ok.is) c.run-disk.ensures.run.1.over).each
-
-pub returns-in-Ok-outcome-clause-represents : goal.returns-in-Ok-outcome-clause-represents
-returns-in-Ok-outcome-clause-represents g c = λ genuine.
-    let m = g.M.Model.meaning c.args.model.now in
-    let made = g.D.SectorDisk.state c.prepare.new.disk in
-    let ran = g.D.SectorDisk.state c.run-disk.result.disk in
-    let begun = prepared_genuine m c.args.end (g.D.SectorDisk.state c.args.disk) made (g.met.M.Model.lawful c.args.model.now) c.requires.short (g.met.D.SectorDisk.sound c.prepare.new.disk) (λ blank. c.in_default.ensures.made blank (record { some = c.requires.begun; within = c.requires.short })) c.prepare.ensures.looks genuine in
-    let over = ran_to m c.args.end made ran c.run-disk.ensures.run.0 c.in-Ok.field-0 (sym c.run-disk.ensures.run.2 ∙ c.in-Ok.is) c.run-disk.ensures.run.1.simulation in
-    let ended = (over.genuine begun).1 in
-    let left = recovers-genuine m c.args.end ran (g.met.D.SectorDisk.sound c.run-disk.result.disk) c.args.end ended in
-    let outcome = c.in-Ok-outcome.front in
-    let represents : Represents m c.args.end ran.reads (world_of outcome) = rw c.in-Ok-outcome.is at (c.committed-disk.ensures.represents left) in
-    subst (λ (image : List (List ℕ)). Represents m c.args.end image (world_of outcome)) (sym c.committed-disk.ensures.looks.same) represents
-
-pub returns-in-Ok-outcome-clause-committed : goal.returns-in-Ok-outcome-clause-committed
-returns-in-Ok-outcome-clause-committed g c = λ genuine.
-    let m = g.M.Model.meaning c.args.model.now in
-    let made = g.D.SectorDisk.state c.prepare.new.disk in
-    let ran = g.D.SectorDisk.state c.run-disk.result.disk in
-    let begun = prepared_genuine m c.args.end (g.D.SectorDisk.state c.args.disk) made (g.met.M.Model.lawful c.args.model.now) c.requires.short (g.met.D.SectorDisk.sound c.prepare.new.disk) (λ blank. c.in_default.ensures.made blank (record { some = c.requires.begun; within = c.requires.short })) c.prepare.ensures.looks genuine in
-    let over = ran_to m c.args.end made ran c.run-disk.ensures.run.0 c.in-Ok.field-0 (sym c.run-disk.ensures.run.2 ∙ c.in-Ok.is) c.run-disk.ensures.run.1.simulation in
-    let ended = (over.genuine begun).1 in
-    let left = recovers-genuine m c.args.end ran (g.met.D.SectorDisk.sound c.run-disk.result.disk) c.args.end ended in
-    (looked-keeps m c.args.end c.args.end ran (g.D.SectorDisk.state c.committed-disk.result.disk) c.committed-disk.ensures.looks ended).now_on
 
 pub returns-in-Ok-outcome-clause-crashes : goal.returns-in-Ok-outcome-clause-crashes
 returns-in-Ok-outcome-clause-crashes g c = λ a recovers.
@@ -101,9 +115,9 @@ returns-in-Ok-outcome-clause-any_moment g c = λ in_sync blank.
     let made = g.D.SectorDisk.state c.prepare.new.disk in
     let ran = g.D.SectorDisk.state c.run-disk.result.disk in
     let new = g.D.SectorDisk.state c.committed-disk.result.disk in
-    let runs = c.run-disk.ensures.run.1.simulation.crashes 0 (exactly_recovers m c.args.end made (c.in_default.ensures.made blank (record { some = c.requires.begun; within = c.requires.short }))) in
+    let runs = c.run-disk.ensures.run.1.simulation.crashes 0 (exactly_recovers m c.args.end made (c.in_default.ensures.made blank c.requires.possible.ends)) in
     then_so m c.args.end old ran new
-    (then_so m c.args.end old made ran (made_so m c.args.end old made (c.prepare.ensures.any_moment in_sync blank (record { some = c.requires.begun; within = c.requires.short }))) runs)
+    (then_so m c.args.end old made ran (made_so m c.args.end old made (c.prepare.ensures.any_moment in_sync blank c.requires.possible.ends)) runs)
     (looked-keeps m c.args.end 0 ran new c.committed-disk.ensures.looks runs.now_on)
 
 pub returns-in-Err-outcome-2-clause-crashes : goal.returns-in-Err-outcome-2-clause-crashes
@@ -124,26 +138,10 @@ returns-in-Err-outcome-2-clause-any_moment g c = λ in_sync blank.
     let made = g.D.SectorDisk.state c.prepare.new.disk in
     let ran = g.D.SectorDisk.state c.run-disk.result.disk in
     let new = g.D.SectorDisk.state c.committed-disk.result.disk in
-    let runs = c.run-disk.ensures.run.1.simulation.crashes 0 (exactly_recovers m c.args.end made (c.in_default.ensures.made blank (record { some = c.requires.begun; within = c.requires.short }))) in
+    let runs = c.run-disk.ensures.run.1.simulation.crashes 0 (exactly_recovers m c.args.end made (c.in_default.ensures.made blank c.requires.possible.ends)) in
     then_so m c.args.end old ran new
-    (then_so m c.args.end old made ran (made_so m c.args.end old made (c.prepare.ensures.any_moment in_sync blank (record { some = c.requires.begun; within = c.requires.short }))) runs)
+    (then_so m c.args.end old made ran (made_so m c.args.end old made (c.prepare.ensures.any_moment in_sync blank c.requires.possible.ends)) runs)
     (looked-keeps m c.args.end 0 ran new c.committed-disk.ensures.looks runs.now_on)
-
-pub returns-in-Err-clause-faults : goal.returns-in-Err-clause-faults
-returns-in-Err-clause-faults g c = λ genuine fault is. absurd (not_of_preparing _ _ c.in-Err.fault (Port fault) (cc) c.in-Err.ensures.refused)
-
-pub returns-in-Err-outcome-clause-faults : goal.returns-in-Err-outcome-clause-faults
-returns-in-Err-outcome-clause-faults g c = λ genuine fault is.
-    let m = g.M.Model.meaning c.args.model.now in
-    let made = g.D.SectorDisk.state c.prepare.new.disk in
-    let begun = prepared_genuine m c.args.end (g.D.SectorDisk.state c.args.disk) made (g.met.M.Model.lawful c.args.model.now) c.requires.short (g.met.D.SectorDisk.sound c.prepare.new.disk) (λ blank. c.in_default.ensures.made blank (record { some = c.requires.begun; within = c.requires.short })) c.prepare.ensures.looks genuine in
-    let cause : c.in-Err-outcome.fault ≡ Session (Port fault) = cc in
-    let run = c.run-disk.ensures.run in
-    let is_made = ran_refused run.0 (Port fault) (sym run.2 ∙ c.in-Err-outcome.is ∙ ap Err cause) in
-    (subst (λ (r : Result Finished RunFault). IfErr r (IsFaultOverFaithful IsFaultInProgram m c.args.end c.args.plan made.reads)) is_made (run.1.faults begun)).port fault refl
-
-pub returns-in-Err-outcome-2-clause-faults : goal.returns-in-Err-outcome-2-clause-faults
-returns-in-Err-outcome-2-clause-faults g c = λ genuine fault is. absurd (not_of_reading _ _ _ _ c.in-Err-outcome-2.fault (Port fault) (cc) (rw c.in-Err-outcome-2.is at c.committed-disk.ensures.refused))
 
 pub returns-in-Err-clause-kept : goal.returns-in-Err-clause-kept
 returns-in-Err-clause-kept g c = λ v.

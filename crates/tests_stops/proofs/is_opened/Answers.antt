@@ -1,0 +1,9 @@
+use Rattle.std.proofs.Common.{refl}
+use Rattle.tests_stops.proofs.Opening.{may_open}
+use Rattle.tests_stops.proofs.is_opened.Goals as goal
+
+pub open-requires : goal.open-requires
+open-requires c = record {
+  possible = may_open _ _ c.args.nodes c.args.end _ c.in_ok-ports.ensures.ports refl
+      (record { some = c.requires.some; few = c.requires.few; ends = record { some = c.requires.begun; within = c.requires.short } });
+}
