@@ -24,7 +24,7 @@ pub begins_in_row : (lps : ℕ) (image : List (List ℕ)) (origin : Option Origi
 begins_in_row lps image None first are is = tt
 begins_in_row lps image (Some o) first are is = sym (origin_of_two (row_of image)) ∙ ap (origin_in lps) (sym are) ∙ is
   where
-    origin_of_two : (row : List Entry) → origin_in lps (take 2 row) ≡ origin_in lps row
+    origin_of_two : (entries : List Entry) → origin_in lps (take 2 entries) ≡ origin_in lps entries
     origin_of_two [] = refl
     origin_of_two (entry ∷ rest) = refl
 
@@ -34,7 +34,7 @@ time_in_row image None first time are is = tt
 time_in_row image (Some o) first time are (inl zero) = inl zero
 time_in_row image (Some o) first time are (inr there) = inr (sym (second_of_two (row_of image)) ∙ ap (λ (l : List Entry). slice_get l 1) (sym are) ∙ there)
   where
-    second_of_two : (row : List Entry) → slice_get (take 2 row) 1 ≡ slice_get row 1
+    second_of_two : (entries : List Entry) → slice_get (take 2 entries) 1 ≡ slice_get entries 1
     second_of_two [] = refl
     second_of_two (a ∷ []) = refl
     second_of_two (a ∷ b ∷ rest) = refl
